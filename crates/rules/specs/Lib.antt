@@ -1,0 +1,10 @@
+pub mod Lists
+pub mod Map
+pub mod Walk
+pub mod Check
+pub mod Stream
+pub mod Writing
+pub mod Reading
+pub mod Session
+pub mod Report
+pub mod Examples
