@@ -94,7 +94,7 @@ pub record Connected (N n : ℕ) (t : List ℕ) (root : ℕ) : Type 0 where
   pub reached : (d : ℕ) → d < n → Reached allRanks N n t root d
 
 -- N and n are within the limits, and the tables hold a map's entries
-pub record Within (N n : ℕ) (t : List ℕ) : Type 0 where
+pub record Limits (N n : ℕ) (t : List ℕ) : Type 0 where
   pub dims : (1 ≤ N) × (N ≤ 6)
   pub darts : (1 ≤ n) × (n ≤ 4096)
   pub room : size N n ≤ length t

@@ -8,13 +8,14 @@ use lib.Dec.{eqb}
 use Rattle.rules.specs.Lists.{sum, number}
 use Rattle.rules.specs.Map.{mark, size, place, link, blank}
 
+-- where a walk stands
 pub record Walk : Type 0 where
-  pub dim : ℕ                   -- N
-  pub darts : ℕ                 -- n
-  pub queues : List (List ℕ)    -- L0..LN
-  pub links : List ℕ            -- tables of what is known of each ai, by walk number
-  pub count : ℕ                 -- how many darts are numbered
-  pub positions : List ℕ        -- how many darts have left each queue
+  pub dim : ℕ  -- N
+  pub darts : ℕ  -- n
+  pub queues : List (List ℕ)  -- L0..LN
+  pub links : List ℕ  -- tables of what is known of each ai, by walk number
+  pub count : ℕ  -- how many darts are numbered
+  pub positions : List ℕ  -- how many darts have left each queue
 
 -- the root gets walk number 0 and enters L0; no link is known
 unfoldable pub start : ℕ → ℕ → List ℕ → Walk
@@ -31,9 +32,11 @@ headFrom j [] = none
 headFrom j ([] ∷ qs) = headFrom (suc j) qs
 headFrom j ((b ∷ q) ∷ qs) = at j b
 
+-- of all queues
 unfoldable pub head : Walk → Head
 head w = headFrom 0 (w .queues)
 
+-- a queue without its head
 unfoldable pub tail : List ℕ → List ℕ
 tail [] = []
 tail (b ∷ q) = q
@@ -66,24 +69,35 @@ partner w j b = cond (unknown w j b) (deduce w j b (j - 1) 0) known
 -- b leaves Lj and enters L(j+1), or is finished if j = N
 unfoldable pub pass : Walk → ℕ → ℕ → Walk
 pass w j b = record {
-  dim = w .dim; darts = w .darts;
+  dim = w .dim;
+  darts = w .darts;
   queues = set (set (w .queues) j (tail (getD (w .queues) j []))) (suc j) (getD (w .queues) (suc j) [] ++ (b ∷ []));
-  links = w .links; count = w .count;
-  positions = set (w .positions) j (suc (getD (w .positions) j 0)) }
+  links = w .links;
+  count = w .count;
+  positions = set (w .positions) j (suc (getD (w .positions) j 0));
+}
 
 -- aj(b) = e and its reverse become known
 unfoldable pub join : Walk → ℕ → ℕ → ℕ → Walk
 join w j b e = record {
-  dim = w .dim; darts = w .darts; queues = w .queues;
+  dim = w .dim;
+  darts = w .darts;
+  queues = w .queues;
   links = set (set (w .links) (place (w .dim) (w .darts) j b) e) (place (w .dim) (w .darts) j e) b;
-  count = w .count; positions = w .positions }
+  count = w .count;
+  positions = w .positions;
+}
 
 -- the next walk number enters L0
 unfoldable pub fresh : Walk → Walk
 fresh w = record {
-  dim = w .dim; darts = w .darts;
+  dim = w .dim;
+  darts = w .darts;
   queues = set (w .queues) 0 (getD (w .queues) 0 [] ++ (w .count ∷ []));
-  links = w .links; count = suc (w .count); positions = w .positions }
+  links = w .links;
+  count = suc (w .count);
+  positions = w .positions;
+}
 
 -- a step that makes aj(b) = e known
 unfoldable pub tie : Walk → ℕ → ℕ → ℕ → Walk
@@ -128,6 +142,7 @@ named new names x = names ++ (x ∷ [])
 named border names x = names
 named (index e) names x = names
 
+-- the symbol s is written for the partner x
 unfoldable pub writeSymbol : Walk → List ℕ → ℕ → ℕ → ℕ → Symbol → Written
 writeSymbol w names j b x s = wrote (s ∷ []) (apply w j b s) (named s names x)
 
@@ -137,12 +152,14 @@ writeWith w names j b d x known = wrote [] (pass w j b) names
 writeWith w names j b d x (deduced e) = wrote [] (tie w j b e) names
 writeWith w names j b d x asked = writeSymbol w names j b x (symbolOf (eqb x d) (eqb (number names x) (length names)) (number names x))
 
+-- the head b of Lj, with its dart and that dart's aj
 unfoldable pub writeAt : List ℕ → Walk → List ℕ → Head → Written
 writeAt m w names none = finished
 writeAt m w names (at j b) =
     let d = getD names b mark in
     writeWith w names j b d (link (w .dim) (w .darts) m j d) (partner w j b)
 
+-- one step over a map
 unfoldable pub writeStep : List ℕ → Walk → List ℕ → Written
 writeStep m w names = writeAt m w names (head w)
 
@@ -151,9 +168,11 @@ pub record Walked : Type 0 where
   pub symbols : List Symbol
   pub names : List ℕ
 
+-- symbols written before
 unfoldable pub prepend : List Symbol → Walked → Walked
 prepend out r = record { symbols = out ++ r .symbols; names = r .names }
 
+-- a step, and the walk after it
 unfoldable pub writeOn : (Walk → List ℕ → Walked) → List ℕ → Written → Walked
 writeOn f names finished = record { symbols = []; names = names }
 writeOn f names (wrote out w' names') = prepend out (f w' names')
@@ -163,6 +182,7 @@ unfoldable pub write : ℕ → List ℕ → Walk → List ℕ → Walked
 write zero m w names = record { symbols = []; names = names }
 write (suc k) m w names = writeOn (λ w' names'. write k m w' names') names (writeStep m w names)
 
+-- from the root: names begin with it
 unfoldable pub walked : ℕ → ℕ → List ℕ → ℕ → Walked
 walked N n m root = write (enough N n) m (start N n []) (root ∷ [])
 
