@@ -5,13 +5,13 @@ use mathlib.Core.Logic.{_≢_}
 use mathlib.Core.Bool.{Bool, true, false, cond}
 use mathlib.Core.List.{List, [], _∷_, _++_}
 use native.Mathlib.Omega.{arith}
-use native.Mathlib.Nat.{le-of-suc-le-suc, mod-lt, div-add-mod', div-lt-iff-lt-mul}
-use lib.ListN.{length, getD, set}
-use lib.Seq.{getD-set-same, getD-set-other}
+use native.Mathlib.Nat.{le-of-suc-le-suc, mod-lt, div-lt-iff-lt-mul}
+use lib.ListN.{length, getD, set, drop, replicate, length-append, length-replicate, List·getD-append}
+use lib.Seq.{getD-set-same, getD-set-other, drop-at}
 use lib.Dec.{ltb}
 use lib.Arith.{digits-lt, digits-div, digits-mod}
-use borrow.Author.Tests.{lt-ltb, le-ltb}
-use Rattle.rules.specs.Map.{mark, size, place, link}
+use borrow.Author.Tests.{ltb-true, lt-ltb, le-ltb}
+use Rattle.rules.specs.Map.{mark, size, place, link, blank}
 
 pub place-below : (N n i d : ℕ) → i ≤ N → d < n → place N n i d < size N n
 unfolding place
@@ -57,7 +57,7 @@ unfolding link
 link-dart N n t i d h = go (ltb d n) refl h
   where
     go : (b : Bool) → ltb d n ≡ b → cond b (getD t (place N n i d) mark) mark ≢ mark → d < n
-    go true q h = borrow.Author.Tests.ltb-true d n q
+    go true q h = ltb-true d n q
     go false q h = absurd (h refl)
 
 -- links after a store
@@ -73,6 +73,43 @@ link-set-other N n t i d i' d' v hd f = go (ltb d' n) refl
     go : (b : Bool) → ltb d' n ≡ b → cond b (getD (set t (place N n i d) v) (place N n i' d') mark) mark ≡ cond b (getD t (place N n i' d') mark) mark
     go false q = refl
     go true q =
-        let h' = borrow.Author.Tests.ltb-true d' n q in
+        let h' = ltb-true d' n q in
         let ne : place N n i' d' ≢ place N n i d = λ e. f (place-rank N n i' d' i d h' hd e) (place-dart N n i' d' i d h' hd e) in
         rw getD-set-other
+
+-- blanked tables: long enough, no link, and what is past them stays
+pub blank-room : (k : ℕ) (t : List ℕ) → k ≤ length (blank k t)
+unfolding blank
+blank-room k t = simp (length-append, length-replicate) (omega arith)
+
+getD-front : (k : ℕ) (u : List ℕ) (p : ℕ) → p < k → getD (replicate k mark ++ u) p mark ≡ mark
+getD-front zero u p h = absurd (omega arith)
+getD-front (suc k) u zero h = refl
+getD-front (suc k) u (suc p) h = getD-front k u p (omega arith)
+
+pub link-blank : (N n : ℕ) (t : List ℕ) (i d : ℕ) → i ≤ N → link N n (blank (size N n) t) i d ≡ mark
+unfolding link blank
+link-blank N n t i d hi = go (ltb d n) refl
+  where
+    go : (b : Bool) → ltb d n ≡ b → cond b (getD (replicate (size N n) mark ++ drop (size N n) t) (place N n i d) mark) mark ≡ mark
+    go false q = refl
+    go true q = getD-front (size N n) (drop (size N n) t) (place N n i d) (place-below N n i d hi (ltb-true d n q))
+
+pub drop-blank : (k : ℕ) (t : List ℕ) → drop k (blank k t) ≡ drop k t
+unfolding blank
+drop-blank k t = drop-at (replicate k mark) (drop k t) k (length-replicate k mark)
+
+pub drop-set : (k : ℕ) (t : List ℕ) (p v : ℕ) → p < k → drop k (set t p v) ≡ drop k t
+drop-set zero t p v h = absurd (omega arith)
+drop-set (suc k) [] p v h = refl
+drop-set (suc k) (x ∷ t) zero v h = refl
+drop-set (suc k) (x ∷ t) (suc p) v h = drop-set k t p v (omega arith)
+
+-- links do not depend on what is past the map's entries
+pub link-past : (N n : ℕ) (t x : List ℕ) (i d : ℕ) → i ≤ N → size N n ≤ length t → link N n (t ++ x) i d ≡ link N n t i d
+unfolding link
+link-past N n t x i d hi h = go (ltb d n) refl
+  where
+    go : (b : Bool) → ltb d n ≡ b → cond b (getD (t ++ x) (place N n i d) mark) mark ≡ cond b (getD t (place N n i d) mark) mark
+    go false q = refl
+    go true q = List·getD-append t x mark (place N n i d) (omega (arith, place-below N n i d hi (ltb-true d n q)))
