@@ -4,6 +4,7 @@ pub mod Places
 pub mod Pairs
 pub mod Orbits
 pub mod Cells
+pub mod Check
 pub mod Positions
 pub mod Links
 pub mod Walks

@@ -1,9 +1,8 @@
 -- The pair table shown once by closed tests: a dimension's prefix holds exactly the pairs i + 2 ≤ j ≤ N. What the search for a broken manifold condition finds,
 -- which serves refusals 8 and 16. Rests on Lists and Firsts.
 use Prim.Native.Nat.{ℕ, zero, suc, _+_, _≤_, _<_}
-use mathlib.Core.Path.{_≡_, refl, ap, sym, _∙_}
-use mathlib.Core.Logic.{_⊎_, inl, inr}
-use mathlib.Core.Bool.{Bool, true, false, not, _&&_, _||_}
+use mathlib.Core.Path.{_≡_, refl}
+use mathlib.Core.Bool.{Bool, true, not, _&&_, _||_}
 use mathlib.Core.List.{List, [], _∷_}
 use native.Mathlib.Omega.{arith}
 use lib.ListN.{length, getD, take}
@@ -14,7 +13,7 @@ use Rattle.rules.specs.declared.Pair.{Pair}
 use Rattle.rules.specs.Lists.{allBelow, someBelow, first}
 use Rattle.rules.specs.Map.{link, pairs, pairsFor, pairsOf, pairAt, broken, firstBroken}
 use Rattle.rules.proofs.Lists.{and-left, and-right, all-below, some-below, first-le}
-use Rattle.rules.proofs.Firsts.{Tells, fires, clears, tells-map, tells-not, tells-lt, tells-eq, tells-least, Least, FirstOf}
+use Rattle.rules.proofs.Firsts.{Tells, fires, clears, tells-map, tells-cases, tells-not, tells-lt, tells-eq, tells-least, Least, FirstOf}
 
 -- the k-th pair of a list
 unfoldable pub nth : List Pair → ℕ → Pair
@@ -75,14 +74,15 @@ tells-broken N n t p d = tells-not (tells-eq (link N n t (p .high) (link N n t (
 pub firstBroken-le : (N n : ℕ) (t : List ℕ) (ps : List Pair) → firstBroken N n t ps ≤ n
 unfolding firstBroken
 firstBroken-le N n t [] = omega arith
-firstBroken-le N n t (p ∷ ps) = go (tells-lt (first (broken N n t p) n) n) (firstBroken-le N n t ps)
-  where
-    go : {C G : Type 0} → Tells (ltb (first (broken N n t p) n) n) C G → firstBroken N n t ps ≤ n → firstBroken N n t (p ∷ ps) ≤ n
-    go (fires q l) h = rw (firstBroken, q) (first-le (broken N n t p) n)
-    go (clears q l) h = rw (firstBroken, q) h
+firstBroken-le N n t (p ∷ ps) =
+    let h = firstBroken-le N n t ps in
+    tells-cases (tells-lt (first (broken N n t p) n) n) (λ q l. rw (firstBroken, q) (first-le (broken N n t p) n)) (λ q l. rw (firstBroken, q) h)
 
--- the search among the first a pairs of a list finds the first place, by pair and then dart
-searched : (N n : ℕ) (t : List ℕ) (ps : List Pair) (a : ℕ) → a ≤ length ps → let r = firstBroken N n t (take a ps) in Tells (ltb r n) ((k : ℕ) × FirstOf a n (λ k. Returns N n t (nth ps k)) k r) ((k d : ℕ) → k < a → d < n → Returns N n t (nth ps k) d)
+-- whether r is below n tells if the condition is broken at some of a pairs: then first, by pair and then dart, at dart r
+abbrev Search : ℕ → ℕ → List ℕ → (ℕ → Pair) → ℕ → ℕ → Type 0
+Search N n t at a r = Tells (ltb r n) ((k : ℕ) × FirstOf a n (λ k. Returns N n t (at k)) k r) ((k d : ℕ) → k < a → d < n → Returns N n t (at k) d)
+
+searched : (N n : ℕ) (t : List ℕ) (ps : List Pair) (a : ℕ) → a ≤ length ps → Search N n t (nth ps) a (firstBroken N n t (take a ps))
 unfolding firstBroken nth
 searched N n t ps zero h = clears (le-ltb n n (omega arith)) (λ k d l. absurd (omega arith))
 searched N n t [] (suc a) h = absurd (omega arith)
@@ -93,8 +93,7 @@ searched N n t (p ∷ ps) (suc a) h = go (tells-least (broken N n t p) n (Return
     rows A b B (suc k) d l hd = B k d (omega arith) hd
 
     go : Tells (ltb (first (broken N n t p) n) n) (Least n (Returns N n t p) (first (broken N n t p) n)) ((d : ℕ) → d < n → Returns N n t p d)
-        → (let r = firstBroken N n t (take a ps) in Tells (ltb r n) ((k : ℕ) × FirstOf a n (λ k. Returns N n t (nth ps k)) k r) ((k d : ℕ) → k < a → d < n → Returns N n t (nth ps k) d))
-        → let r = firstBroken N n t (p ∷ take a ps) in Tells (ltb r n) ((k : ℕ) × FirstOf (suc a) n (λ k. Returns N n t (nth (p ∷ ps) k)) k r) ((k d : ℕ) → k < suc a → d < n → Returns N n t (nth (p ∷ ps) k) d)
+        → Search N n t (nth ps) a (firstBroken N n t (take a ps)) → Search N n t (nth (p ∷ ps)) (suc a) (firstBroken N n t (p ∷ take a ps))
     go (fires q L) s = rw (firstBroken, q) (fires q (0, record { row = omega arith; least = L; rows = λ k d l. absurd (omega arith) }))
     go (clears q A) s = rw (firstBroken, q) (tells-map (λ (k, F). (suc k, record { row = omega (arith, F .row); least = F .least; rows = rows A k (F .rows) })) (λ B. rows A a B) s)
 
@@ -102,24 +101,20 @@ searched N n t (p ∷ ps) (suc a) h = go (tells-least (broken N n t p) n (Return
 abbrev pub FirstPair : ℕ → ℕ → List ℕ → ℕ → ℕ → Type 0
 FirstPair N n t k d = FirstOf (pairsFor N) n (λ k. Returns N n t (pairAt k)) k d
 
-pub tells-pairs : (N n : ℕ) (t : List ℕ) → N ≤ 6 → let r = firstBroken N n t (pairsOf N) in Tells (ltb r n) ((k : ℕ) × FirstPair N n t k r) (Manifold N n t)
-unfolding pairsOf pairAt Returns nth
-tells-pairs N n t h6 = tells-map (λ F. F) (λ A i j d h hj hd. let (k, l, a, b) = member-nth N i j h6 (pair-there N i j h6 h hj) in rw (a, b) at (A k d l hd)) (searched N n t pairs (pairsFor N) (prefix-within N h6))
-
 pub pair-breaks : (N n : ℕ) (t : List ℕ) (k d : ℕ) → N ≤ 6 → FirstPair N n t k d → Manifold N n t → ⊥
 unfolding Returns
 pair-breaks N n t k d h6 F M = let (h, hj) = nth-fits N k h6 (F .row) in F .least .fails (M (pairAt k .low) (pairAt k .high) d h hj (F .least .below))
 
+pub tells-pairs : (N n : ℕ) (t : List ℕ) → N ≤ 6 → let r = firstBroken N n t (pairsOf N) in Tells (ltb r n) ((k : ℕ) × FirstPair N n t k r) (Manifold N n t)
+unfolding pairsOf pairAt Returns nth
+tells-pairs N n t h6 =
+    tells-map (λ F. F) (λ A i j d h hj hd. let (k, l, a, b) = member-nth N i j h6 (pair-there N i j h6 h hj) in rw (a, b) at (A k d l hd))
+    (searched N n t pairs (pairsFor N) (prefix-within N h6))
+
 pub broken-none : (N n : ℕ) (t : List ℕ) → N ≤ 6 → firstBroken N n t (pairsOf N) ≡ n → Manifold N n t
-broken-none N n t h6 e = go (tells-pairs N n t h6)
-  where
-    go : (let r = firstBroken N n t (pairsOf N) in Tells (ltb r n) ((k : ℕ) × FirstPair N n t k r) (Manifold N n t)) → Manifold N n t
-    go (fires q (k, F)) = absurd (omega (arith, F .least .below))
-    go (clears q M) = M
+broken-none N n t h6 e = tells-cases (tells-pairs N n t h6) (λ q (k, F). absurd (omega (arith, F .least .below))) (λ q M. M)
 
 pub none-broken : (N n : ℕ) (t : List ℕ) → N ≤ 6 → Manifold N n t → firstBroken N n t (pairsOf N) ≡ n
-none-broken N n t h6 M = go (tells-pairs N n t h6)
-  where
-    go : (let r = firstBroken N n t (pairsOf N) in Tells (ltb r n) ((k : ℕ) × FirstPair N n t k r) (Manifold N n t)) → firstBroken N n t (pairsOf N) ≡ n
-    go (fires q (k, F)) = absurd (pair-breaks N n t k (firstBroken N n t (pairsOf N)) h6 F M)
-    go (clears q _) = omega (arith, ltb-false (firstBroken N n t (pairsOf N)) n q, firstBroken-le N n t (pairsOf N))
+none-broken N n t h6 M =
+    let r = firstBroken N n t (pairsOf N) in
+    tells-cases (tells-pairs N n t h6) (λ q (k, F). absurd (pair-breaks N n t k r h6 F M)) (λ q x. omega (arith, ltb-false r n q, firstBroken-le N n t (pairsOf N)))
