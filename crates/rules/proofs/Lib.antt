@@ -12,8 +12,13 @@ pub mod Codes
 pub mod Moves
 pub mod Runs
 pub mod Readings
+pub mod Steps
 pub mod Names
+pub mod Numbering
+pub mod Known
 pub mod Tails
 pub mod Sound
 pub mod Complete
+pub mod Streams
+pub mod Unique
 pub mod Examples
