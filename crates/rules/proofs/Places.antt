@@ -1,13 +1,13 @@
 -- Laws of `place` and `link`: a place is within the tables, one rank and dart have one place, every place is some rank and dart's. Only these see through `place`.
-use Prim.Native.Nat.{ℕ, zero, suc, _+_, _*_, _-_, _/_, _%_, _≤_, _<_}
+use Prim.Native.Nat.{ℕ, zero, suc, _+_, _*_, _/_, _%_, _≤_, _<_}
 use mathlib.Core.Path.{_≡_, refl, ap, sym, _∙_}
 use mathlib.Core.Logic.{_≢_}
 use mathlib.Core.Bool.{Bool, true, false, cond}
-use mathlib.Core.List.{List, [], _∷_, _++_}
+use mathlib.Core.List.{List, _++_}
 use native.Mathlib.Omega.{arith}
 use native.Mathlib.Nat.{le-of-suc-le-suc, mod-lt, div-lt-iff-lt-mul}
-use lib.ListN.{length, getD, set, drop, replicate, length-append, length-replicate, List·getD-append}
-use lib.Seq.{getD-set-same, getD-set-other, drop-at}
+use lib.ListN.{length, getD, set, replicate, drop, length-append, length-replicate, List·getD-append}
+use lib.Seq.{drop-at, getD-set-same, getD-set-other}
 use lib.Dec.{ltb}
 use lib.Arith.{digits-lt, digits-div, digits-mod}
 use borrow.Author.Tests.{ltb-true, lt-ltb, le-ltb}
@@ -98,12 +98,6 @@ link-blank N n t i d hi = go (ltb d n) refl
 pub drop-blank : (k : ℕ) (t : List ℕ) → drop k (blank k t) ≡ drop k t
 unfolding blank
 drop-blank k t = drop-at (replicate k mark) (drop k t) k (length-replicate k mark)
-
-pub drop-set : (k : ℕ) (t : List ℕ) (p v : ℕ) → p < k → drop k (set t p v) ≡ drop k t
-drop-set zero t p v h = absurd (omega arith)
-drop-set (suc k) [] p v h = refl
-drop-set (suc k) (x ∷ t) zero v h = refl
-drop-set (suc k) (x ∷ t) (suc p) v h = drop-set k t p v (omega arith)
 
 -- links do not depend on what is past the map's entries
 pub link-past : (N n : ℕ) (t x : List ℕ) (i d : ℕ) → i ≤ N → size N n ≤ length t → link N n (t ++ x) i d ≡ link N n t i d
