@@ -12,6 +12,8 @@ pub mod Codes
 pub mod Moves
 pub mod Runs
 pub mod Readings
+pub mod Fitness
+pub mod Sessions
 pub mod Steps
 pub mod Names
 pub mod Numbering
