@@ -1,14 +1,14 @@
 -- Laws of the plain functions on numbers and lists: ranges, places in a list, tests below a bound, the first number that passes, pigeonhole. Rests on no other law of the project.
-use Prim.Native.Nat.{ℕ, zero, suc, _+_, _*_, _-_, _≤_, _<_}
+use Prim.Native.Nat.{ℕ, zero, suc, _+_, _-_, _≤_, _<_}
 use mathlib.Core.Path.{_≡_, refl, ap, sym, _∙_}
 use mathlib.Core.Logic.{_≢_, _⊎_, inl, inr}
-use mathlib.Core.Bool.{Bool, true, false, not, _&&_, _||_, cond}
+use mathlib.Core.Bool.{Bool, true, false, _&&_, cond, _||_}
 use mathlib.Core.List.{List, [], _∷_, _++_, map}
 use native.Mathlib.Omega.{arith}
-use native.Mathlib.Decide.{ℕ-discrete, decLt, decLe}
-use lib.ListN.{length, getD, set, replicate, length-map}
-use lib.Dec.{eqb, ltb, leb}
-use borrow.Author.Tests.{ltb-true, ltb-false, eqb-true, eqb-false, eq-eqb, ne-eqb}
+use native.Mathlib.Decide.{ℕ-discrete, decLt}
+use lib.ListN.{length, getD, replicate, length-map}
+use lib.Dec.{eqb}
+use borrow.Author.Tests.{eqb-true, eq-eqb, ne-eqb}
 use Rattle.rules.specs.Lists.{span, range, listOf, allBelow, someBelow, scan, first, number}
 
 -- two tests at once
@@ -245,6 +245,31 @@ first-none f k h = go (decLt (first f k) k)
     go : Dec (first f k < k) → first f k ≡ k
     go (yes l) = absurd (not-both (f (first f k)) (first-passes f k l) (h (first f k) l))
     go (no l) = omega (arith, first-le f k)
+
+-- a search for the first number below k has come to i
+pub record Sought (f : ℕ → Bool) (k i : ℕ) : Type 0 where
+  pub upTo : i ≤ k
+  pub left : first f k ≡ scan f (k - i) i
+
+pub sought-start : (f : ℕ → Bool) (k : ℕ) → Sought f k 0
+unfolding first
+sought-start f k = let e : k - 0 ≡ k = omega arith in record { upTo = omega arith; left = rw e }
+
+module _ {f : ℕ → Bool} {k i : ℕ} (r : Sought f k i) where
+  pub sought-next : i < k → f i ≡ false → Sought f k (i + 1)
+  sought-next h q = record { upTo = omega arith; left = r .left ∙ scan-next f k i h q }
+
+  pub sought-here : i < k → f i ≡ true → i ≡ first f k
+  sought-here h q = sym (r .left ∙ scan-here f k i h q)
+
+  pub sought-end : k ≤ i → i ≡ first f k
+  sought-end h = sym (r .left ∙ scan-end f k i h)
+
+-- within a list it is no matter what stands past its end
+pub getD-any : (t : List ℕ) (i x y : ℕ) → i < length t → getD t i x ≡ getD t i y
+getD-any [] i x y h = absurd (omega arith)
+getD-any (a ∷ t) zero x y h = refl
+getD-any (a ∷ t) (suc i) x y h = getD-any t i x y (omega arith)
 
 -- no number is at one place and another
 pub pigeonhole : (a b : ℕ) (f : ℕ → ℕ) → ((i : ℕ) → i < a → f i < b) → ((i j : ℕ) → i < a → j < a → f i ≡ f j → i ≡ j) → a ≤ b

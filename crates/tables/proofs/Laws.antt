@@ -1,53 +1,28 @@
 -- Laws for the leaves over lent tables: an entry read is a link, a search one turn of its loop at a time, what each test of the code says of its definition.
-use Prim.Native.Nat.{ℕ, zero, suc, _+_, _-_, _/_, _%_, _≤_, _<_}
-use mathlib.Core.Path.{_≡_, refl, sym, _∙_}
+use Prim.Native.Nat.{ℕ, _+_, _/_, _%_, _≤_, _<_}
+use mathlib.Core.Path.{_≡_, sym, _∙_}
 use mathlib.Core.Logic.{_≢_}
-use mathlib.Core.Bool.{Bool, true, false}
-use mathlib.Core.List.{List, [], _∷_}
+use mathlib.Core.Bool.{true, false}
+use mathlib.Core.List.{List, _∷_}
 use native.Mathlib.Omega.{arith}
-use native.Mathlib.Numerals.{add-one}
 use lib.ListN.{length, getD, drop, drop-of-length-le}
-use lib.Seq.{drop-cons, getD-take, length-take-le}
-use lib.Dec.{leb}
-use borrow.Author.Tests.{leb-true, lt-ltb, le-ltb, eq-eqb, ne-eqb}
+use lib.Seq.{getD-take, drop-cons, length-take-le}
+use borrow.Author.Tests.{eq-eqb, ne-eqb, lt-ltb, le-ltb}
+use native.Mathlib.Numerals.{add-one}
 use Rattle.rules.specs.declared.Pair.{Pair}
-use Rattle.rules.specs.Lists.{allBelow, scan, first}
-use Rattle.rules.specs.Map.{mark, place, link, Limits, pairs, pairsFor, pairsOf, pairAt, around, broken, firstBroken}
+use Rattle.rules.specs.Lists.{first}
+use Rattle.rules.specs.Map.{mark, place, link, pairs, pairsFor, pairsOf, pairAt, around, broken, firstBroken, Limits}
 use Rattle.rules.specs.Check.{outside, twisted}
-use Rattle.rules.proofs.Lists.{all-below, scan-here, scan-next, scan-end}
+use Rattle.rules.proofs.Lists.{getD-any}
 use Rattle.rules.proofs.Places.{place-below, link-entry}
+use Rattle.rules.proofs.Pairs.{prefix-within}
 
 -- a link stands within the tables
 pub place-within : (N n : ℕ) (t : List ℕ) (i d : ℕ) → Limits N n t → i ≤ N → d < n → place N n i d < length t
 place-within N n t i d L hi hd = omega (arith, place-below N n i d hi hd)
 
--- within a list it is no matter what stands past its end
-getD-any : (t : List ℕ) (i x y : ℕ) → i < length t → getD t i x ≡ getD t i y
-getD-any [] i x y h = absurd (omega arith)
-getD-any (a ∷ t) zero x y h = refl
-getD-any (a ∷ t) (suc i) x y h = getD-any t i x y (omega arith)
-
 pub entry-link : (N n : ℕ) (t : List ℕ) (i d : ℕ) → Limits N n t → i ≤ N → d < n → getD t (place N n i d) 0 ≡ link N n t i d
 entry-link N n t i d L hi hd = getD-any t (place N n i d) 0 mark (place-within N n t i d L hi hd) ∙ sym (link-entry N n t i d hd)
-
--- a search for the first number below k has come to i
-pub record Sought (f : ℕ → Bool) (k i : ℕ) : Type 0 where
-  pub upTo : i ≤ k
-  pub left : first f k ≡ scan f (k - i) i
-
-pub sought-start : (f : ℕ → Bool) (k : ℕ) → Sought f k 0
-unfolding first
-sought-start f k = let e : k - 0 ≡ k = omega arith in record { upTo = omega arith; left = rw e }
-
-module _ {f : ℕ → Bool} {k i : ℕ} (r : Sought f k i) where
-  pub sought-next : i < k → f i ≡ false → Sought f k (i + 1)
-  sought-next h q = record { upTo = omega arith; left = r .left ∙ scan-next f k i h q }
-
-  pub sought-here : i < k → f i ≡ true → i ≡ first f k
-  sought-here h q = sym (r .left ∙ scan-here f k i h q)
-
-  pub sought-end : k ≤ i → i ≡ first f k
-  sought-end h = sym (r .left ∙ scan-end f k i h)
 
 -- the tests of the code, x being what it read
 pub outside-yes : (N n : ℕ) (t : List ℕ) (k x : ℕ) → x ≡ link N n t (k / n) (k % n) → n ≤ x → outside N n t k ≡ true
@@ -75,12 +50,9 @@ unfolding broken
 broken-no N n t p d x e h = rw (← e, eq-eqb x d h)
 
 -- a dimension's prefix is within the table
-table-few : allBelow 7 (λ N. leb (pairsFor N) 15) ≡ true
-unfolding allBelow pairsFor
-table-few = refl
-
 pub few-pairs : (N : ℕ) → N ≤ 6 → pairsFor N ≤ 15
-few-pairs N h6 = leb-true (pairsFor N) 15 (all-below 7 _ table-few N (omega arith))
+unfolding pairs
+few-pairs N h6 = prefix-within N h6
 
 length-prefix : (N : ℕ) → N ≤ 6 → length (pairsOf N) ≡ pairsFor N
 unfolding pairsOf pairs

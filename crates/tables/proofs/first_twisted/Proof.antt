@@ -4,7 +4,8 @@ use native.Mathlib.Omega.{arith}
 use Rattle.rules.specs.Map as map
 use Rattle.rules.specs.Check.{twisted}
 use Rattle.rules.proofs.Places.{nth-rank, nth-dart}
-use Rattle.tables.proofs.Laws.{Sought, sought-start, sought-next, sought-here, sought-end, twisted-yes, twisted-no}
+use Rattle.rules.proofs.Lists.{Sought, sought-start, sought-next, sought-here, sought-end}
+use Rattle.tables.proofs.Laws.{twisted-yes, twisted-no}
 use Rattle.tables.proofs.first_twisted.Statement.{statement}
 use Rattle.tables.proofs.first_twisted.Tie as tie
 
