@@ -1,0 +1,162 @@
+-- Laws of bits one by one: of a number, of a byte, of a page; a number from its bits; bits that begin a symbol. Rests on the laws of codes.
+use Prim.Native.Nat.{ℕ, zero, suc, _+_, _*_, _-_, _/_, _%_, _≤_, _<_, _^_}
+use mathlib.Core.Path.{_≡_, refl, ap, sym, _∙_}
+use mathlib.Core.Bool.{Bool, true, false, cond}
+use mathlib.Core.List.{List, [], _∷_, _++_}
+use native.Mathlib.Omega.{arith}
+use native.Mathlib.Nat.{pow-suc, pow-le-pow-right, div-eq-of-lt, div-eq-of-lt-le, add-mul-div-left}
+use lib.ListN.{length, getD, take, drop, length-append, length-drop}
+use lib.Seq.{drop-at, drop-append-le, drop-drop, take-length, drop-cons, take-add, length-take-le}
+use lib.Dec.{eqb, ltb, leb}
+use borrow.Author.Tests.{lt-ltb, leb-true, leb-false, le-leb, lt-leb, le-ltb}
+use lib.Pow.{pow-add, pow-pos, shl-exact}
+use Rattle.rules.specs.Walk.{Symbol}
+use Rattle.rules.specs.Stream.{bitsOf, value, unpack, Taken, takeIndex}
+use Rattle.rules.specs.Session.{begins}
+use Rattle.rules.proofs.Codes.{length-bits, value-lt}
+
+-- the bits of a number, first bit first
+pub bits-one : (k x : ℕ) → 2 ^ k ≤ x → bitsOf (suc k) x ≡ true ∷ bitsOf k (x - 2 ^ k)
+unfolding bitsOf
+bits-one k x h = rw (le-leb (2 ^ k) x h)
+
+pub bits-zero : (k x : ℕ) → x < 2 ^ k → bitsOf (suc k) x ≡ false ∷ bitsOf k x
+unfolding bitsOf
+bits-zero k x h = rw (lt-leb (2 ^ k) x h)
+
+-- the first bit of w by its weight h, as the code shifts it
+module _ (w x h : ℕ) (some : 0 < w) (few : w ≤ 16) (shifted : h ≡ 1 * 2 ^ (w - 1) % 65536) where
+  weight : h ≡ 2 ^ (w - 1)
+  weight = shifted ∙ (shl-exact 1 (w - 1) 16 (omega arith) (omega arith) ∙ omega arith)
+
+  longer : w ≡ suc (w - 1)
+  longer = omega arith
+
+  pub first-one : h ≤ x → bitsOf w x ≡ true ∷ bitsOf (w - 1) (x - h)
+  first-one l = ap (λ (n : ℕ). bitsOf n x) longer ∙ rw weight (bits-one (w - 1) x (omega (arith, weight)))
+
+  pub first-zero : x < h → bitsOf w x ≡ false ∷ bitsOf (w - 1) x
+  first-zero l = ap (λ (n : ℕ). bitsOf n x) longer ∙ bits-zero (w - 1) x (omega (arith, weight))
+
+  pub holds-one : x < 2 ^ w → x - h < 2 ^ (w - 1)
+  holds-one l = omega (arith, weight, ap (λ (n : ℕ). 2 ^ n) longer, pow-suc 2 (w - 1))
+
+  pub holds-zero : x < h → x < 2 ^ (w - 1)
+  holds-zero l = omega (arith, weight)
+
+-- a higher bit is no part of a lower one
+higher : (b j k y : ℕ) → k ≡ b + j → (y + 2 ^ suc k) / 2 ^ j % 2 ≡ y / 2 ^ j % 2
+higher b j k y q =
+    let e : 2 ^ suc k ≡ 2 ^ j * (2 * 2 ^ b) = pow-suc 2 k ∙ rw (q, pow-add 2 b j) (omega arith) in
+    rw (e, add-mul-div-left y (2 * 2 ^ b) (pow-pos j)) (omega arith)
+
+first-bit : (j x : ℕ) → x < 2 ^ suc j → bitsOf (suc j) x ≡ eqb (x / 2 ^ j % 2) 1 ∷ drop 1 (bitsOf (suc j) x)
+first-bit j x h = go (leb (2 ^ j) x) refl
+  where
+    go : (t : Bool) → leb (2 ^ j) x ≡ t → bitsOf (suc j) x ≡ eqb (x / 2 ^ j % 2) 1 ∷ drop 1 (bitsOf (suc j) x)
+    go true e =
+        let l = leb-true (2 ^ j) x e in
+        let q : x / 2 ^ j ≡ 1 = div-eq-of-lt-le (2 ^ j) (omega arith) (omega (arith, pow-suc 2 j)) in
+        rw (bits-one j x l, q)
+    go false e = let l = leb-false (2 ^ j) x e in rw (bits-zero j x l, div-eq-of-lt l)
+
+-- the bit after b others and before j others, by a shift
+bit-at : (b j k x : ℕ) → k ≡ b + j → x < 2 ^ suc k → drop b (bitsOf (suc k) x) ≡ eqb (x / 2 ^ j % 2) 1 ∷ drop (suc b) (bitsOf (suc k) x)
+bit-at zero j k x q h = let z : j ≡ k = omega arith in rw z (first-bit k x h)
+bit-at (suc b) j zero x q h = absurd (omega arith)
+bit-at (suc b) j (suc k) x q h = go (leb (2 ^ suc k) x) refl (bit-at b j k x (omega arith)) (bit-at b j k (x - 2 ^ suc k) (omega arith))
+  where
+    go : (t : Bool) → leb (2 ^ suc k) x ≡ t
+        → (x < 2 ^ suc k → drop b (bitsOf (suc k) x) ≡ eqb (x / 2 ^ j % 2) 1 ∷ drop (suc b) (bitsOf (suc k) x))
+        → (x - 2 ^ suc k < 2 ^ suc k → drop b (bitsOf (suc k) (x - 2 ^ suc k)) ≡ eqb ((x - 2 ^ suc k) / 2 ^ j % 2) 1 ∷ drop (suc b) (bitsOf (suc k) (x - 2 ^ suc k)))
+        → drop (suc b) (bitsOf (suc (suc k)) x) ≡ eqb (x / 2 ^ j % 2) 1 ∷ drop (suc (suc b)) (bitsOf (suc (suc k)) x)
+    go true e p r =
+        let l = leb-true (2 ^ suc k) x e in
+        let d : x - 2 ^ suc k + 2 ^ suc k ≡ x = omega arith in
+        let s : x / 2 ^ j % 2 ≡ (x - 2 ^ suc k) / 2 ^ j % 2 = rw d at (higher b j k (x - 2 ^ suc k) (omega arith)) in
+        rw (bits-one (suc k) x l, s) (r (omega (arith, pow-suc 2 (suc k))))
+    go false e p r = let l = leb-false (2 ^ suc k) x e in rw (bits-zero (suc k) x l) (p l)
+
+-- the bits of a page from a byte on, a byte at a time and a bit at a time
+module _ (page : List ℕ) (at : ℕ) (within : at < length page) where
+  page-byte : unpack (drop at page) ≡ bitsOf 8 (getD page at 0) ++ unpack (drop (suc at) page)
+  unfolding unpack
+  page-byte = rw (drop-cons page at 0 within)
+
+  pub page-bit : (b : ℕ) → b < 8 → getD page at 0 < 256
+      → drop b (unpack (drop at page)) ≡ eqb (getD page at 0 / 2 ^ (7 - b) % 2) 1 ∷ drop (suc b) (unpack (drop at page))
+  page-bit b h hx =
+      let x = getD page at 0 in
+      let l = length-bits 8 x in
+      rw (page-byte, drop-append-le b (bitsOf 8 x) (unpack (drop (suc at) page)) (omega arith), drop-append-le (suc b) (bitsOf 8 x) (unpack (drop (suc at) page)) (omega arith), bit-at b (7 - b) 7 x (omega arith) hx)
+
+  pub page-over : drop 8 (unpack (drop at page)) ≡ unpack (drop (suc at) page)
+  page-over = rw page-byte (drop-at (bitsOf 8 (getD page at 0)) (unpack (drop (suc at) page)) 8 (length-bits 8 (getD page at 0)))
+
+-- one bit more: Horner's rule
+value-more : (bs : List Bool) (b : Bool) → value (bs ++ (b ∷ [])) ≡ 2 * value bs + cond b 1 0
+unfolding value
+value-more [] true = refl
+value-more [] false = refl
+value-more (true ∷ bs) b =
+    let e : length (bs ++ (b ∷ [])) ≡ suc (length bs) = simp length-append (omega arith) in
+    rw (e, value-more bs b) (omega (arith, pow-suc 2 (length bs)))
+value-more (false ∷ bs) b = value-more bs b
+
+-- i bits of bs were taken, v is the number that they write, and l are left
+pub record Taking (bs l : List Bool) (i v : ℕ) : Type 0 where
+  pub upTo : i ≤ length bs
+  pub rest : drop i bs ≡ l
+  pub wrote : v ≡ value (take i bs)
+
+pub taking-start : (bs : List Bool) → Taking bs bs 0 0
+unfolding value
+taking-start bs = record { upTo = omega arith; rest = refl; wrote = refl }
+
+pub taking-more : {bs l : List Bool} {i v : ℕ} → Taking bs l i v → (b : Bool) (m : List Bool) → l ≡ b ∷ m → (u : ℕ) → u ≡ 2 * v + cond b 1 0 → Taking bs m (i + 1) u
+taking-more {bs} {l} {i} {v} r b m e u d =
+    let q : drop i bs ≡ b ∷ m = r .rest ∙ e in
+    let t : take (i + 1) bs ≡ take i bs ++ (b ∷ []) = take-add i 1 bs ∙ rw q in
+    record {
+      upTo = omega (arith, length-drop i bs, ap length q);
+      rest = sym (drop-drop 1 i bs) ∙ rw q;
+      wrote = rw (t, value-more (take i bs) b, ← r .wrote) d;
+    }
+
+pub taking-end : {bs : List Bool} {i v : ℕ} → Taking bs [] i v → (i ≡ length bs) × (v ≡ value bs)
+taking-end {bs} {i} {v} r =
+    let n : i ≡ length bs = omega (arith, r .upTo, length-drop i bs, ap length (r .rest)) in
+    let e : take i bs ≡ bs = rw n (take-length bs) in
+    (n, rw e at (r .wrote))
+
+-- a number of at most 13 bits
+pub taking-small : {bs l : List Bool} {i v : ℕ} → Taking bs l i v → i ≤ 13 → v < 8192
+taking-small {bs} {l} {i} {v} r h =
+    let p : 2 ^ i ≤ 2 ^ 13 = pow-le-pow-right (omega arith) h in
+    let n : length (take i bs) ≡ i = length-take-le i bs (r .upTo) in
+    let t : value (take i bs) < 2 ^ i = rw n at (value-lt (take i bs)) in
+    omega (arith, r .wrote)
+
+-- twelve bits, or that they run out, are what the w wants
+pub number-whole : (bs l : List Bool) (v : ℕ) → Taking bs l 12 v → Taken.symbol (Symbol.index v) l ≡ takeIndex (ltb (length bs) 12) bs
+unfolding takeIndex
+number-whole bs l v r = rw (le-ltb (length bs) 12 (r .upTo), r .rest, r .wrote)
+
+pub number-short : (bs : List Bool) (i v : ℕ) → i < 12 → Taking bs [] i v → Taken.short ≡ takeIndex (ltb (length bs) 12) bs
+unfolding takeIndex
+number-short bs i v h r = rw (lt-ltb (length bs) 12 (omega (arith, taking-end r .0)))
+
+-- what waits and begins a symbol is no longer than the symbol
+pub begun-new : (ws ys bs : List Bool) → begins ws ≡ true → ws ++ ys ≡ false ∷ bs → length ws ≡ 0
+unfolding begins
+begun-new [] ys bs g e = refl
+begun-new (false ∷ ws) ys bs g e = let z : _≡_ {A = ℕ} 0 1 = cc in absurd (omega arith)
+begun-new (true ∷ ws) ys bs g e = let z : _≡_ {A = ℕ} 0 1 = cc in absurd (omega arith)
+
+pub begun-border : (ws ys bs : List Bool) → begins ws ≡ true → ws ++ ys ≡ true ∷ false ∷ bs → length ws ≤ 1
+unfolding begins
+begun-border [] ys bs g e = omega arith
+begun-border (false ∷ ws) ys bs g e = let z : _≡_ {A = ℕ} 0 1 = cc in absurd (omega arith)
+begun-border (true ∷ []) ys bs g e = omega arith
+begun-border (true ∷ false ∷ ws) ys bs g e = let z : _≡_ {A = ℕ} 0 1 = cc in absurd (omega arith)
+begun-border (true ∷ true ∷ ws) ys bs g e = let z : _≡_ {A = ℕ} 0 1 = cc in absurd (omega arith)

@@ -1,0 +1,52 @@
+-- `symbols::Cursor::next_bit` meets its contract: a bit that waits, or one of the page, or none. Assumes nothing.
+use native.Mathlib.Omega.{arith}
+use borrow.Author.Needs.{needs}
+use Rattle.symbols.proofs.Cursors.{page-out, page-one, page-zero}
+use Rattle.symbols.proofs.Cursor.next_bit.Statement.{statement}
+use Rattle.symbols.proofs.Cursor.next_bit.Tie as tie
+
+waiting-bit-requires : tie.Need-waiting-bit-requires
+waiting-bit-requires c κs = search needs
+
+returns : tie.Need-returns
+returns c = c .waiting-bit .ensures _ (c .before .before .before .before .pre)
+
+returns-2 : tie.Need-returns-2
+returns-2 c = page-out _ _ (omega arith) (c .if2 .taken)
+
+sub-shift : tie.Need-sub-shift
+sub-shift c = search needs
+
+shared-slice-read-byte : tie.Need-shared-slice-read-byte
+shared-slice-read-byte c = search needs
+
+cast-if3 : tie.Need-cast-if3
+cast-if3 c = search needs
+
+shr-if3 : tie.Need-shr-if3
+shr-if3 c = search needs
+
+past-bit-requires : tie.Need-past-bit-requires
+past-bit-requires c κs = search needs
+
+past-bit-requires-2 : tie.Need-past-bit-requires-2
+past-bit-requires-2 c κs = search needs
+
+returns-3 : tie.Need-returns-3
+returns-3 c =
+    let s = c .before .before .before .before .before .before .before .before in
+    let x = c .before .before .shared-slice-known2 .given (s .args .self .at) in
+    let h = c .before .before .before .before .if2 .left in
+    page-one (s .args .self) _ (omega arith) _ (s .pre) h (x .fits) (c .past-bit .ensures _ (s .pre) h) (c .before .if3 .taken)
+
+returns-4 : tie.Need-returns-4
+returns-4 c =
+    let s = c .before .before .before .before .before .before .before .before in
+    let x = c .before .before .shared-slice-known2 .given (s .args .self .at) in
+    let h = c .before .before .before .before .if2 .left in
+    page-zero (s .args .self) _ (omega arith) _ (s .pre) h (x .fits) (c .past-bit2 .ensures _ (s .pre) h) (c .before .if3 .left)
+
+pub next-bit-spec : {M : Type 1} → statement M
+next-bit-spec =
+    tie.close
+    (tie.spec waiting-bit-requires returns returns-2 sub-shift shared-slice-read-byte cast-if3 shr-if3 past-bit-requires past-bit-requires-2 returns-3 returns-4)

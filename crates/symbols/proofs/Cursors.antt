@@ -1,0 +1,136 @@
+-- Laws of cursors: the page's bits at hand, one of them taken, and what a symbol leaves. Rests on the laws of bits.
+use Prim.Native.Nat.{ℕ, _+_, _*_, _-_, _/_, _%_, _≤_, _<_, _^_}
+use mathlib.Core.Path.{_≡_, sym, _∙_}
+use mathlib.Core.Logic.{_≢_}
+use mathlib.Core.List.{List, [], _∷_}
+use mathlib.Core.Bool.{Bool, true, false, cond}
+use native.Mathlib.Omega.{arith}
+use lib.ListN.{length, getD, drop, drop-of-length-le}
+use lib.Seq.{drop-nil}
+use borrow.Author.Tests.{eq-eqb, ne-eqb}
+use Rattle.rules.specs.declared.WalkNo.{WalkNo}
+use Rattle.rules.specs.Session.{begins}
+use Rattle.rules.specs.Stream.{bitsOf, unpack, takeSymbol}
+use Rattle.rules.proofs.Codes.{length-bits}
+use Rattle.symbols.specs.declared.Cursor.{Cursor}
+use Rattle.symbols.specs.declared.Bit.{Bit}
+use Rattle.symbols.specs.declared.Bit.the-variants.{Out, Zero, One}
+use Rattle.symbols.specs.declared.Taken.the-variants as Taken
+use Rattle.symbols.specs.declared.Number.{Number}
+use Rattle.symbols.specs.declared.Number.the-variants as Number
+use Rattle.symbols.specs.Cursors.{atHand, CursorFits, PastPageBit, bitsWith, Past, PastBit, BitTaken, toldNumber, PastNumber, NumberTaken, told, PastSymbol, SymbolTaken}
+use Rattle.symbols.proofs.Bits.{page-bit, Taking, taking-start, taking-more, begun-new, begun-border}
+
+-- no bit waits: the page's bits are at hand
+module _ (c : Cursor) (page : List ℕ) (none : c .waiting ≡ 0) where
+  page-hand : atHand c page ≡ drop (c .bit) (unpack (drop (c .at) page))
+  unfolding atHand bitsOf
+  page-hand = rw none
+
+  pub page-out : length page ≤ c .at → BitTaken Out c page
+  unfolding bitsWith PastBit unpack
+  page-out h = record { tells = sym (page-hand ∙ rw (drop-of-length-le page h) (drop-nil (c .bit))); past = tt }
+
+  -- the bit at the cursor is taken, and d is past it
+  module _ (d : Cursor) (f : CursorFits c page) (within : c .at < length page) (byte : getD page (c .at) 0 < 256) (p : PastPageBit c d page) where
+    pub page-one : getD page (c .at) 0 / 2 ^ (7 - c .bit) % 2 ≡ 1 → BitTaken (One d) c page
+    unfolding bitsWith PastBit
+    page-one e = record {
+      tells = rw (page-hand, page-bit page (c .at) within (c .bit) (f .inByte) byte, eq-eqb _ _ e, p .left);
+      past = record { fits = p .fits; gone = omega (arith, p .none) };
+    }
+
+    pub page-zero : getD page (c .at) 0 / 2 ^ (7 - c .bit) % 2 ≢ 1 → BitTaken (Zero d) c page
+    unfolding bitsWith PastBit
+    page-zero e = record {
+      tells = rw (page-hand, page-bit page (c .at) within (c .bit) (f .inByte) byte, ne-eqb _ _ e, p .left);
+      past = record { fits = p .fits; gone = omega (arith, p .none) };
+    }
+
+-- what a bit tells of the bits at hand
+module _ {c : Cursor} {page : List ℕ} {r : Bit} (t : BitTaken r c page) where
+  bit-out : r ≡ Out → atHand c page ≡ []
+  unfolding bitsWith
+  bit-out q = sym (rw q at (t .tells))
+
+  bit-zero : (d : Cursor) → r ≡ Zero d → (atHand c page ≡ false ∷ atHand d page) × Past 1 c d page
+  unfolding bitsWith PastBit
+  bit-zero d q = (sym (rw q at (t .tells)), rw q at (t .past))
+
+  pub bit-one : (d : Cursor) → r ≡ One d → (atHand c page ≡ true ∷ atHand d page) × Past 1 c d page
+  unfolding bitsWith PastBit
+  bit-one d q = (sym (rw q at (t .tells)), rw q at (t .past))
+
+-- i bits of those at hand at c were taken, v is the number that they write, and d is past them
+pub record Along (c d : Cursor) (page : List ℕ) (i v : ℕ) : Type 0 where
+  pub taking : Taking (atHand c page) (atHand d page) i v
+  pub past : Past i c d page
+
+pub along-start : (c : Cursor) (page : List ℕ) → CursorFits c page → Along c c page 0 0
+along-start c page f = record { taking = taking-start (atHand c page); past = record { fits = f; gone = omega arith } }
+
+module _ {c d : Cursor} {page : List ℕ} {i v : ℕ} (a : Along c d page i v) {r : Bit} (t : BitTaken r d page) where
+  along-more : (b : Bool) (e : Cursor) (u : ℕ) → u ≡ 2 * v + cond b 1 0 → (atHand d page ≡ b ∷ atHand e page) × Past 1 d e page → Along c e page (i + 1) u
+  along-more b e u q (l, p) = record { taking = taking-more (a .taking) b (atHand e page) l u q; past = record { fits = p .fits; gone = omega (arith, p .gone, a .past .gone) } }
+
+  pub along-zero : (e : Cursor) → r ≡ Zero e → Along c e page (i + 1) (2 * v)
+  along-zero e q = along-more false e (2 * v) (omega arith) (bit-zero t e q)
+
+  pub along-one : (e : Cursor) → r ≡ One e → Along c e page (i + 1) (2 * v + 1)
+  along-one e q = along-more true e (2 * v + 1) (omega arith) (bit-one t e q)
+
+  pub along-out : r ≡ Out → Taking (atHand c page) [] i v
+  along-out q = rw (bit-out t q) at (a .taking)
+
+-- bits that wait and begin a symbol are no more than N or B takes
+waits-new : (c : Cursor) (page : List ℕ) (bs : List Bool) → begins (bitsOf (c .waiting) (c .value)) ≡ true → atHand c page ≡ false ∷ bs → c .waiting ≡ 0
+unfolding atHand
+waits-new c page bs g l = sym (length-bits (c .waiting) (c .value)) ∙ begun-new _ _ bs g l
+
+waits-border : (c : Cursor) (page : List ℕ) (bs : List Bool) → begins (bitsOf (c .waiting) (c .value)) ≡ true → atHand c page ≡ true ∷ false ∷ bs → c .waiting ≤ 1
+unfolding atHand
+waits-border c page bs g l = omega (arith, length-bits (c .waiting) (c .value), begun-border _ _ bs g l)
+
+-- the symbol by its first bit
+module _ {c : Cursor} {page : List ℕ} {r : Bit} (t : BitTaken r c page) where
+  pub symbol-out : r ≡ Out → SymbolTaken Taken.Short c page
+  unfolding told PastSymbol takeSymbol
+  symbol-out q = record { tells = rw (bit-out t q); past = tt }
+
+  pub symbol-new : (d : Cursor) → r ≡ Zero d → SymbolTaken (Taken.New d) c page
+  unfolding told PastSymbol takeSymbol
+  symbol-new d q =
+      let (l, p) = bit-zero t d q in
+      record { tells = rw l; past = record { fits = p .fits; used = λ g. omega (arith, p .gone, waits-new c page (atHand d page) g l) } }
+
+  -- by its second bit
+  module _ (d : Cursor) (q : r ≡ One d) {s : Bit} (u : BitTaken s d page) where
+    pub symbol-out-2 : s ≡ Out → SymbolTaken Taken.Short c page
+    unfolding told PastSymbol takeSymbol
+    symbol-out-2 z = let (l, p) = bit-one t d q in record { tells = rw (l, bit-out u z); past = tt }
+
+    pub symbol-border : (e : Cursor) → s ≡ Zero e → SymbolTaken (Taken.Border e) c page
+    unfolding told PastSymbol takeSymbol
+    symbol-border e z =
+        let (l, p) = bit-one t d q in
+        let (m, o) = bit-zero u e z in
+        let k : atHand c page ≡ true ∷ false ∷ atHand e page = rw m at l in
+        record { tells = rw k; past = record { fits = o .fits; used = λ g. omega (arith, p .gone, o .gone, waits-border c page (atHand e page) g k) } }
+
+    -- by its number
+    module _ (e : Cursor) (z : s ≡ One e) {n : Number} (v : NumberTaken n e page) where
+      both-ones : atHand c page ≡ true ∷ true ∷ atHand e page
+      both-ones = let (m, o) = bit-one u e z in rw m at (bit-one t d q .0)
+
+      pub symbol-short : n ≡ Number.Short → SymbolTaken Taken.Short c page
+      unfolding told PastSymbol takeSymbol toldNumber
+      symbol-short h = record { tells = rw both-ones (rw h at (v .tells)); past = tt }
+
+      pub symbol-index : c .waiting ≤ 13 → (w : WalkNo) (f : Cursor) → n ≡ Number.Is w f → SymbolTaken (Taken.Index w f) c page
+      unfolding told PastSymbol takeSymbol toldNumber PastNumber
+      symbol-index few w f h =
+          let p : Past 12 e f page = rw h at (v .past) in
+          record {
+            tells = rw both-ones (rw h at (v .tells));
+            past = record { fits = p .fits; used = λ g. omega (arith, p .gone, bit-one t d q .1 .gone, bit-one u e z .1 .gone) };
+          }
