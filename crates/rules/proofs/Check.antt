@@ -105,15 +105,15 @@ module _ (N n root : ℕ) (t : List ℕ) (room : ℕ) where
   not-unreachable : (p : ℕ) → Case N n root t room 9 p → ((d : ℕ) → d < n → Reached allRanks N n t root d) → ⊥
   not-unreachable p (unreachable d L) g = L .fails (g d (L .below))
 
-  tells-entry : Tells (ltb (first (outside N n t) (size N n)) (size N n)) (Case N n root t room 6 (spot N n (first (outside N n t) (size N n)))) ((i d : ℕ) → i ≤ N → d < n → link N n t i d < n)
+  pub tells-entry : Tells (ltb (first (outside N n t) (size N n)) (size N n)) (Case N n root t room 6 (spot N n (first (outside N n t) (size N n)))) ((i d : ℕ) → i ≤ N → d < n → link N n t i d < n)
   unfolding outside spot
   tells-entry = tells-map (λ F. entry _ _ F) (λ g. g) (tells-first N n (λ i d. not (ltb (link N n t i d) n)) (λ i d. link N n t i d < n) (λ i d. tells-map (λ h l. omega arith) (λ g. g) (tells-not (tells-lt (link N n t i d) n))))
 
-  tells-inverse : Tells (ltb (first (twisted N n t) (size N n)) (size N n)) (Case N n root t room 7 (spot N n (first (twisted N n t) (size N n)))) ((i d : ℕ) → i ≤ N → d < n → link N n t i (link N n t i d) ≡ d)
+  pub tells-inverse : Tells (ltb (first (twisted N n t) (size N n)) (size N n)) (Case N n root t room 7 (spot N n (first (twisted N n t) (size N n)))) ((i d : ℕ) → i ≤ N → d < n → link N n t i (link N n t i d) ≡ d)
   unfolding twisted spot
   tells-inverse = tells-map (λ F. inverse _ _ F) (λ g. g) (tells-first N n (λ i d. not (eqb (link N n t i (link N n t i d)) d)) (λ i d. link N n t i (link N n t i d) ≡ d) (λ i d. tells-not (tells-eq (link N n t i (link N n t i d)) d)))
 
-  tells-reaches : Closed N n t → root < n → (d : ℕ) → d < n → Tells (reaches allRanks N n t root d) (Reached allRanks N n t root d) (Reached allRanks N n t root d → ⊥)
+  pub tells-reaches : Closed N n t → root < n → (d : ℕ) → d < n → Tells (reaches allRanks N n t root d) (Reached allRanks N n t root d) (Reached allRanks N n t root d → ⊥)
   tells-reaches C hr d hd =
       let b = reaches allRanks N n t root d in
       tells-by b (λ q. reaches-reached allRanks N n t C root d hr hd q) (λ q r. not-both b (reached-reaches allRanks N n t C root d hr r) q)

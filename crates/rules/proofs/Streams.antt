@@ -52,10 +52,10 @@ filled-length : (bs : List Bool) → length (filled bs) ≡ (length bs + 7) / 8
 unfolding filled
 filled-length bs = length-pack _ _
 
--- Every stream is at most 50,178 bytes
-pub stream-longest : (N n : ℕ) (m : List ℕ) (root : ℕ) → N ≤ 6 → n ≤ 4096 → root < n → Valid N n m → length (stream N n m root) ≤ 50178
-unfolding stream header symbolsOf walked
-stream-longest N n m root h6 hn hr A =
+-- the symbols of a walk take at most 14 bits a step
+pub symbols-few : (N n : ℕ) (m : List ℕ) (root : ℕ) → N ≤ 6 → n ≤ 4096 → root < n → Valid N n m → length (codes (symbolsOf N n m root)) ≤ 401408
+unfolding symbolsOf walked
+symbols-few N n m root h6 hn hr A =
     let v0 = start-inv N n [] (omega arith) hn h6 in
     let a = write-moves (enough N n) m root (start N n []) (root ∷ []) v0 (start-names N n [] m root hr) (unfold start in A) (start-total N n []) in
     let l = moves-length (a .moves) v0 in
@@ -65,7 +65,12 @@ stream-longest N n m root h6 hn hr A =
     let e = moved-total (start N n []) (a .walk) g in
     let q : total (start N n []) ≤ 28672 = unfold total start in mul-le-mul {n₁ = suc N} {m₁ = n} {n₂ = 7} {m₂ = 4096} (omega arith) hn in
     let c = codes-length ((write (enough N n) m (start N n []) (root ∷ [])) .symbols) in
-    rw filled-length (simp (length-append, length-bits) (omega arith))
+    omega arith
+
+-- Every stream is at most 50,178 bytes
+pub stream-longest : (N n : ℕ) (m : List ℕ) (root : ℕ) → N ≤ 6 → n ≤ 4096 → root < n → Valid N n m → length (stream N n m root) ≤ 50178
+unfolding stream header
+stream-longest N n m root h6 hn hr A = rw filled-length (simp (length-append, length-bits) (omega (arith, symbols-few N n m root h6 hn hr A)))
 
 take-none : (b : ℕ) → take {A = ℕ} b [] ≡ []
 take-none zero = refl

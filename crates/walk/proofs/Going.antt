@@ -5,7 +5,7 @@ use mathlib.Core.Path.{_≡_, refl, ap, sym, _∙_}
 use mathlib.Core.List.{List, [], _∷_, _++_}
 use native.Mathlib.Omega.{arith}
 use native.Mathlib.Decide.{ℕ-discrete, decLt}
-use lib.ListN.{length, getD, set, length-append}
+use lib.ListN.{length, getD, set, drop, length-append}
 use lib.Seq.{getD-at}
 use borrow.Author.Tests.{lt-ltb, le-ltb}
 use Rattle.walk.specs.declared.Numbering.{Numbering}
@@ -17,14 +17,16 @@ use Rattle.rules.specs.Walk.{Walk, start, Head, head, steps, Symbol, enough, Wr
 use Rattle.rules.specs.Stream.{code, codes}
 use Rattle.rules.proofs.Lists.{number-le, number-old}
 use Rattle.rules.proofs.Positions.{gone, bound, Shape, Turn, bound-le-count, over}
-use Rattle.rules.proofs.Walks.{next-of}
+use Rattle.rules.proofs.Links.{next-below}
+use Rattle.rules.proofs.Walks.{sum-set, next-of}
 use Rattle.rules.proofs.Codes.{length-bits}
 use Rattle.rules.proofs.Runs.{total, steps-total, codes-append}
 use Rattle.rules.proofs.Names.{name}
 use Rattle.rules.proofs.Numbering.{After, Kept, after-kept}
-use Rattle.walk.specs.Numbers.{writesIn, bitsFor, countAfter, given, workFor, stepped, lowestFrom, roomOf}
+use Rattle.rules.proofs.Streams.{symbols-few}
+use Rattle.walk.specs.Numbers.{writesIn, bitsFor, countAfter, given, workFor, stepped, lowestFrom, roomOf, Newcomer}
 use Rattle.walk.proofs.Laws.{Agrees, symbolsFor, namesFor, Steps, steps-written}
-use Rattle.walk.proofs.Rooms.{room-agrees, room-new, room-none}
+use Rattle.walk.proofs.Rooms.{room-agrees, room-new, room-none, room-tail, room-root}
 
 -- where the numbering stands
 pub record Going (N n : ℕ) (m : List ℕ) (root : ℕ) (work0 : List ℕ) (g : Numbering) (work : List ℕ) : Type 0 where
@@ -106,7 +108,7 @@ unfolding write writeOn writeStep writeAt
 write-end f m w names o = rw o
 
 -- a new partner is a dart without number, and there is room for its number
-record Newcomer (n : ℕ) (names : List ℕ) (x : ℕ) : Type 0 where
+record Joins (n : ℕ) (names : List ℕ) (x : ℕ) : Type 0 where
   pub room : length names < n
   pub dart : x < n
   pub none : number names x ≡ length names
@@ -115,8 +117,8 @@ name-last : (names : List ℕ) (x : ℕ) → name (names ++ (x ∷ [])) (length 
 unfolding name
 name-last names x = getD-at names x [] mark (length names) refl
 
-newcomer : (N n : ℕ) (m : List ℕ) (root k : ℕ) (w : Walk) (names : List ℕ) (x : ℕ) → Kept N n m root k w (names ++ (x ∷ [])) → Newcomer n names x
-newcomer N n m root k w names x K =
+newcomer-in : (N n : ℕ) (m : List ℕ) (root k : ℕ) (w : Walk) (names : List ℕ) (x : ℕ) → Kept N n m root k w (names ++ (x ∷ [])) → Joins n names x
+newcomer-in N n m root k w names x K =
     let c = length names in
     let l : suc c ≡ w .count = sym (simp length-append (omega arith)) ∙ K .named .len in
     let h : c < w .count = omega arith in
@@ -142,7 +144,7 @@ unfolding namesFor
 room-step N n m root k w names work work0 c Nothing K e r = r
 room-step N n m root k w names work work0 c Border K e r = r
 room-step N n m root k w names work work0 c (New x) K e r =
-    let y = newcomer N n m root k w names (x .0) K in
+    let y = newcomer-in N n m root k w names (x .0) K in
     rw (r, e) (room-new n names work0 (x .0) (y .room) (y .dart) (y .none))
 room-step N n m root k w names work work0 c (Index x) K e r = r
 
@@ -179,8 +181,8 @@ module _ (N n : ℕ) (m : List ℕ) (root : ℕ) (h6 : N ≤ 6) (hn : n ≤ 4096
       let t' : G .done ≤ suc N * n = rw (K .done, K .dim, K .darts) at t in
       (rw (G .positions) (K .done), omega arith)
 
-  pub going-start : 2 * n ≤ length work0 → Going N n m root work0 (record { count = 1; positions = 0 ∷ 0 ∷ 0 ∷ 0 ∷ 0 ∷ 0 ∷ 0 ∷ []; bits = 0 }) (given n (blank (2 * n) work0) root 0)
-  going-start h = record {
+  pub going-start : Going N n m root work0 (record { count = 1; positions = 0 ∷ 0 ∷ 0 ∷ 0 ∷ 0 ∷ 0 ∷ 0 ∷ []; bits = 0 }) (given n (blank (2 * n) work0) root 0)
+  going-start = record {
     done = 0;
     walk = start N n [];
     names = root ∷ [];
@@ -273,3 +275,61 @@ module _ (N n : ℕ) (m : List ℕ) (root : ℕ) (h6 : N ≤ 6) (hn : n ≤ 4096
       where
         none : length (codes []) ≡ 0
         none = unfold codes in refl
+
+    -- where the head stands: all within the room
+    pub record Heads (j : ℕ) : Type 0 where
+      pub position : getD (g .positions) j 0 < n
+      pub count : g .count ≤ n
+
+    pub going-heads : (j : ℕ) → lowestFrom (N + 1) 0 (g .count) (g .positions) ≡ j → j ≤ N → Heads j
+    going-heads j e hj =
+        let K = kept G in
+        let h = going-head j e hj in
+        let t = next-of (G .walk) (K .inv) h in
+        let l = next-below (G .walk) (K .inv .shape) (K .inv .links) j (getD (g .positions) j 0) (t .next) in
+        record { position = omega (arith, K .inv .shape .within, K .darts); count = omega (arith, G .count, K .inv .shape .within, K .darts) }
+
+    pub going-bits : g .bits ≤ 401408
+    going-bits = omega (arith, G .symbols, symbols-few N n m root h6 hn hr A)
+
+    newcomer-of : (j b : ℕ) → head (G .walk) ≡ Head.at j b → b ≡ getD (g .positions) j 0 → 2 * n ≤ length work
+        → Newcomer n work (g .count) (writesIn N n m work (g .count) j (getD (g .positions) j 0))
+    unfolding namesFor
+    newcomer-of j b h eb hw =
+        let K = kept G in
+        let y = stepping-same N n m (G .walk) (G .names) work j (g .count) (G .walk .count) (getD (g .positions) j 0) b (G .count) eb (stepping N n m root (G .done) (G .walk) (G .names) work K A (agrees G) j b h) in
+        by-case (writesIn N n m work (g .count) j (getD (g .positions) j 0)) (after-kept N n m root h6 hn hr A (After.next (G .after) (y .step)))
+      where
+        by-case : (s : Output) {w' : Walk} → Kept N n m root (suc (G .done)) w' (namesFor s (G .names)) → Newcomer n work (g .count) s
+        by-case Nothing k = tt
+        by-case Border k = tt
+        by-case (New x) k = let K = kept G in let y = newcomer-in N n m root (suc (G .done)) _ (G .names) (x .0) k in (y .dart, omega (arith, y .room, G .count, K .named .len))
+        by-case (Index e) k = tt
+
+    pub going-newcomer : (j : ℕ) → lowestFrom (N + 1) 0 (g .count) (g .positions) ≡ j → j ≤ N → 2 * n ≤ length work
+        → Newcomer n work (g .count) (writesIn N n m work (g .count) j (getD (g .positions) j 0))
+    going-newcomer j e hj hw = newcomer-of j (getD (g .positions) j 0) (going-head j e hj) refl hw
+
+    -- each turn brings the loop nearer to its end
+    pub going-less : (j : ℕ) → lowestFrom (N + 1) 0 (g .count) (g .positions) ≡ j → j ≤ N → enough N n - sum (set (g .positions) j (getD (g .positions) j 0 + 1)) < enough N n - sum (g .positions)
+    going-less j e hj =
+        let K = kept G in
+        let d = going-done G in
+        let l : j < length (g .positions) = omega (arith, ap length (G .positions), K .inv .shape .seven, K .inv .shape .ranks, K .dim) in
+        let q : getD (g .positions) j 0 + 1 ≡ suc (getD (g .positions) j 0) = omega arith in
+        let r : sum (set (g .positions) j (getD (g .positions) j 0 + 1)) ≡ suc (sum (g .positions)) = rw q (sum-set (g .positions) j l) in
+        omega arith
+
+-- the loop's start and end over the room as it was lent
+module _ (N n : ℕ) (m : List ℕ) (root : ℕ) (h6 : N ≤ 6) (hn : n ≤ 4096) (hr : root < n) (A : Valid N n m) (work b u : List ℕ) (eb : b ≡ blank (2 * n) work) (eu : u ≡ given n b root 0) where
+  rooted : (given n (blank (2 * n) u) root 0 ≡ u) × (drop (2 * n) u ≡ drop (2 * n) work)
+  rooted = let (p, q, r) = room-root n root work hr in rw (eu, eb) ((q, r))
+
+  pub begins-going : Going N n m root u (record { count = 1; positions = 0 ∷ 0 ∷ 0 ∷ 0 ∷ 0 ∷ 0 ∷ 0 ∷ []; bits = 0 }) u
+  begins-going = rw (rooted .0) at (going-start N n m root h6 hn hr A u)
+
+  pub ends-going : {g : Numbering} {x : List ℕ} → Going N n m root u g x → N < lowestFrom (N + 1) 0 (g .count) (g .positions)
+      → (x ≡ roomOf n (namesOf N n m root) work) × (g .bits ≡ length (codes (symbolsOf N n m root)))
+  ends-going G h =
+      let (p, q) = going-end N n m root h6 hn hr A u G h in
+      (p ∙ room-tail n (namesOf N n m root) u work (rooted .1), q)

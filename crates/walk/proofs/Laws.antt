@@ -12,6 +12,7 @@ use lib.Dec.{eqb, ltb, leb}
 use borrow.Author.Tests.{eqb-false, eq-eqb, ne-eqb, lt-ltb, le-leb, lt-leb, le-ltb}
 use Rattle.rules.specs.declared.Dart.{Dart}
 use Rattle.rules.specs.declared.WalkNo.{WalkNo}
+use Rattle.walk.specs.declared.Numbering.{Numbering}
 use Rattle.walk.specs.declared.Output.{Output}
 use Rattle.walk.specs.declared.Output.the-variants.{Nothing, Border, New, Index}
 use Rattle.rules.specs.Lists.{scan, first, number}
@@ -23,7 +24,7 @@ use Rattle.rules.proofs.Links.{next-below}
 use Rattle.rules.proofs.Walks.{Inv, next-of}
 use Rattle.rules.proofs.Names.{name, Names}
 use Rattle.rules.proofs.Known.{leanKnown, leanDeduce, leanPartner, lower-link, partner-lean}
-use Rattle.walk.specs.Numbers.{numberIn, dartIn, knownIn, deducingRank, writesBy, writesIn, countAfter, lowestFrom, numberless}
+use Rattle.walk.specs.Numbers.{numberIn, dartIn, knownIn, deducingRank, writesBy, writesIn, bitsFor, countAfter, workFor, stepped, lowestFrom, Newcomer, numberless}
 
 -- the work room agrees with the names so far: numbered darts have their number, the others none below the count, and numbers have their dart
 pub record Agrees (n : ℕ) (names work : List ℕ) : Type 0 where
@@ -242,3 +243,20 @@ module _ (N n : ℕ) (t work : List ℕ) (c j p : ℕ) (d : Dart) (ed : d .0 ≡
         pub writes-index : e .0 < c → Index e ≡ writesIn N n t work c j p
         unfolding writesIn writesBy
         writes-index h = rw (← ed, ← ek, hk, ← el, hl, ← ex, ne-eqb (x .0) (d .0) hx, ← ee, lt-leb c (e .0) h)
+
+-- a turn of the numbering, over what its calls answered
+pub stepped-by : (w : Numbering) (j : ℕ) (s z : Output) (b c : ℕ) → s ≡ z → b ≡ bitsFor s → c ≡ countAfter s (w .count)
+    → record { count = c; positions = set (w .positions) j (getD (w .positions) j 0 + 1); bits = w .bits + b } ≡ stepped z j w
+stepped-by w j s z b c e eb ec = rw (eb, ec, e)
+
+pub noted-by : (n c : ℕ) (s z : Output) (work u : List ℕ) → s ≡ z → u ≡ workFor n s c work → u ≡ workFor n z c work
+noted-by n c s z work u e h = rw e at h
+
+pub newcomer-by : (n c : ℕ) (s z : Output) (work : List ℕ) → s ≡ z → Newcomer n work c z → Newcomer n work c s
+newcomer-by n c s z work e h = rw e h
+
+pub bits-few : (s : Output) → bitsFor s ≤ 14
+bits-few Nothing = omega arith
+bits-few Border = omega arith
+bits-few (New x) = omega arith
+bits-few (Index e) = omega arith

@@ -14,7 +14,7 @@ use Rattle.rules.specs.Lists.{listOf, number}
 use Rattle.rules.specs.Map.{mark, blank}
 use Rattle.rules.proofs.Lists.{length-listOf, getD-listOf, number-le, getD-number, number-old, number-new}
 use Rattle.rules.proofs.Names.{name}
-use Rattle.walk.specs.Numbers.{numberIn, dartIn, given, roomOf}
+use Rattle.walk.specs.Numbers.{numberIn, given, roomOf}
 use Rattle.walk.proofs.Laws.{Agrees}
 
 -- a number that is no member and not the new one is still none
@@ -29,14 +29,14 @@ number-miss (z ∷ names) x y h ne = go (λ q. number-miss names x y q ne) (eqb 
     go rec false h = ap suc (rec (omega arith))
 
 -- the walk number of a dart that the room shows
-shown : List ℕ → ℕ → ℕ
+unfoldable pub shown : List ℕ → ℕ → ℕ
 shown names d = cond (ltb (number names d) (length names)) (number names d) mark
 
-shown-numbered : (names : List ℕ) (d : ℕ) → number names d < length names → shown names d ≡ number names d
+pub shown-numbered : (names : List ℕ) (d : ℕ) → number names d < length names → shown names d ≡ number names d
 unfolding shown
 shown-numbered names d h = rw (lt-ltb (number names d) (length names) h)
 
-shown-none : (names : List ℕ) (d : ℕ) → length names ≤ number names d → shown names d ≡ mark
+pub shown-none : (names : List ℕ) (d : ℕ) → length names ≤ number names d → shown names d ≡ mark
 unfolding shown
 shown-none names d h = rw (le-ltb (number names d) (length names) h)
 
@@ -59,7 +59,7 @@ module _ (n : ℕ) (names work : List ℕ) (hn : length names ≤ n) where
   unfolding blank
   room-blank = rw room-drop
 
-  room-number : (d : ℕ) → d < n → getD (roomOf n names work) d mark ≡ shown names d
+  pub room-number : (d : ℕ) → d < n → getD (roomOf n names work) d mark ≡ shown names d
   unfolding roomOf shown
   room-number d h = List·getD-append (listOf n (shown names)) _ mark d (omega (arith, length-listOf n (shown names))) ∙ getD-listOf n (shown names) d mark h
 
@@ -144,3 +144,17 @@ room-all n names work e f =
     let p = list-same n (shown names) (number names) (λ i l. shown-numbered names i (f i l)) in
     let z : n - n ≡ 0 = omega arith in
     rw (p, e, z, append-assoc)
+
+-- the room depends on what is past its 2n entries only there
+pub room-tail : (n : ℕ) (names u v : List ℕ) → drop (2 * n) u ≡ drop (2 * n) v → roomOf n names u ≡ roomOf n names v
+unfolding roomOf
+room-tail n names u v e = rw e
+
+-- the room with the root numbered, taken as the room that was lent
+pub room-root : (n root : ℕ) (work : List ℕ) → root < n
+    → let u = given n (blank (2 * n) work) root 0 in (u ≡ roomOf n (root ∷ []) work) × (given n (blank (2 * n) u) root 0 ≡ u) × (drop (2 * n) u ≡ drop (2 * n) work)
+unfolding number
+room-root n root work h =
+    let e : given n (blank (2 * n) work) root 0 ≡ roomOf n (root ∷ []) work = rw (← room-none n work) (room-new n [] work root (omega arith) h refl) in
+    let d : drop (2 * n) (roomOf n (root ∷ []) work) ≡ drop (2 * n) work = room-drop n (root ∷ []) work (omega arith) in
+    (e, rw (e, room-blank n (root ∷ []) work (omega arith)) e, rw e d)

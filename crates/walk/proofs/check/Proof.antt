@@ -1,9 +1,8 @@
+-- `walk::check` meets its contract: the inner check without the bits. Assumes nothing.
 use borrow.Author.Needs.{needs}
+use Rattle.walk.proofs.Verdicts.{check-by}
 use Rattle.walk.proofs.check.Statement.{statement}
 use Rattle.walk.proofs.check.Tie as tie
-use Rattle.walk.proofs.check.Reads as reads
-use Rattle.walk.proofs.check.Lts as lts
-use Rattle.walk.proofs.inspect.Reads as inspect-reads
 
 inspect-requires : tie.Need-inspect-requires
 inspect-requires c κs = search needs
@@ -12,7 +11,7 @@ same-length : tie.Need-same-length
 same-length c = search needs
 
 returns : tie.Need-returns
-returns c = ?
+returns c = let a = c .before .before .before .before .before .before .args in check-by (a .dim) (a .darts) (a .root) (a .tables .now) (a .work .now) _ _ (c .before .before .inspect .ensures)
 
 pub check-spec : {M : Type 1} → statement M
 check-spec = tie.close (tie.spec inspect-requires same-length returns)

@@ -1,9 +1,7 @@
+-- `walk::note` meets its contract: only a new partner changes the room. Assumes nothing.
 use borrow.Author.Needs.{needs}
 use Rattle.walk.proofs.note.Statement.{statement}
 use Rattle.walk.proofs.note.Tie as tie
-use Rattle.walk.proofs.note.Reads as reads
-use Rattle.walk.proofs.note.Lts as lts
-use Rattle.walk.proofs.give_number.Reads as give-number-reads
 
 enum-told : tie.Need-enum-told
 enum-told c = search needs

@@ -1,12 +1,9 @@
+-- `walk::number_step` meets its contract: what is written decides the count, the bits and the room. Assumes nothing.
 use borrow.Author.Needs.{needs}
+use native.Mathlib.Omega.{arith}
+use Rattle.walk.proofs.Laws.{stepped-by, noted-by, newcomer-by, bits-few}
 use Rattle.walk.proofs.number_step.Statement.{statement}
 use Rattle.walk.proofs.number_step.Tie as tie
-use Rattle.walk.proofs.number_step.Reads as reads
-use Rattle.walk.proofs.number_step.Lts as lts
-use Rattle.walk.proofs.bits_of.Reads as bits-of-reads
-use Rattle.walk.proofs.count_after.Reads as count-after-reads
-use Rattle.walk.proofs.note.Reads as note-reads
-use Rattle.walk.proofs.writes.Reads as writes-reads
 
 mul-position : tie.Need-mul-position
 mul-position c = search needs
@@ -18,13 +15,13 @@ writes-requires : tie.Need-writes-requires
 writes-requires c κs = search needs
 
 note-requires : tie.Need-note-requires
-note-requires c κs = ?
+note-requires c κs = newcomer-by _ _ _ _ _ (c .before .writes .ensures) (c .before .before .before .before .before .before .pre .6)
 
 bits-of-requires : tie.Need-bits-of-requires
 bits-of-requires c κs = search needs
 
 add-next : tie.Need-add-next
-add-next c = ?
+add-next c = omega (arith, c .bits-of .ensures, bits-few (c .before .before .before .before .before .writes .result))
 
 add-next-2 : tie.Need-add-next-2
 add-next-2 c = search needs
@@ -42,7 +39,10 @@ same-length : tie.Need-same-length
 same-length c = search needs
 
 returns : tie.Need-returns
-returns c = ?
+returns c =
+    let a = c .before .before .before .before .before .before .before .before .before .before .before .args in
+    let s = c .before .before .before .before .before .before .writes in
+    (stepped-by (a .t5) (a .j) _ _ _ _ (s .ensures) (c .before .bits-of .ensures) (c .count-after .ensures), noted-by _ _ _ _ _ _ (s .ensures) (c .before .before .before .before .note .ensures))
 
 pub number-step-spec : {M : Type 1} → statement M
 number-step-spec =
