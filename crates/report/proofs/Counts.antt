@@ -1,0 +1,162 @@
+-- Laws of the report's counts, one turn of a loop at a time: a dart leads its cell if no flood before it came there. Rests on Floods and the rules' Orbits.
+use Prim.Native.Nat.{ℕ, suc, _+_, _*_, _/_, _%_, _≤_, _<_}
+use mathlib.Core.Path.{_≡_, refl, ap, sym, _∙_}
+use mathlib.Core.Logic.{_≢_}
+use mathlib.Core.Bool.{Bool, true, false, not, cond}
+use mathlib.Core.List.{List}
+use native.Mathlib.Omega.{arith}
+use native.Mathlib.Nat.{mul-le-mul}
+use native.Mathlib.Decide.{ℕ-discrete, decLt, decLe}
+use lib.ListN.{length, getD, set, replicate, length-set}
+use lib.Seq.{ext-getD, getD-set-same, getD-set-other}
+use lib.Dec.{eqb, leb}
+use borrow.Author.Tests.{eq-eqb, ne-eqb, le-leb, lt-leb}
+use Rattle.rules.specs.Lists.{listOf, someBelow, countBelow}
+use Rattle.rules.specs.Map.{mark, size, link, blank, allBut, Valid, Limits, reaches}
+use Rattle.rules.specs.Report.{leads, cells, freePairs, cellCounts}
+use Rattle.rules.proofs.Lists.{length-listOf, getD-listOf, getD-same, some-below, below-some}
+use Rattle.rules.proofs.Orbits.{valid-closed, reached-sym, reaches-reached, reached-reaches}
+use Rattle.report.specs.Flood.{Marked, Queue, Traced, Around, Settled, Flooded}
+use Rattle.report.proofs.Floods.{grown-marked, settled-grown, reached-marked, linked-reached, queue-blanked, traced-blanked}
+
+-- one number more below the bound
+pub count-yes : (f : ℕ → Bool) (k : ℕ) → f k ≡ true → countBelow (k + 1) f ≡ countBelow k f + 1
+unfolding countBelow
+count-yes f k q = let e : k + 1 ≡ suc k = omega arith in rw (e, q) (omega arith)
+
+pub count-no : (f : ℕ → Bool) (k : ℕ) → f k ≡ false → countBelow (k + 1) f ≡ countBelow k f
+unfolding countBelow
+count-no f k q = let e : k + 1 ≡ suc k = omega arith in rw (e, q) (omega arith)
+
+pub count-none : (f : ℕ → Bool) → countBelow 0 f ≡ 0
+unfolding countBelow
+count-none f = refl
+
+-- the tables are not long
+pub size-small : {N n : ℕ} {t : List ℕ} → Limits N n t → size N n ≤ 28672
+size-small {N} {n} L = mul-le-mul {n₁ = suc N} {m₁ = n} {n₂ = 7} {m₂ = 4096} (omega arith) (omega arith)
+
+-- the k-th link, by rank, then dart, is a free pair's
+abbrev pub isFree : ℕ → ℕ → List ℕ → ℕ → Bool
+isFree N n t k = eqb (link N n t (k / n) (k % n)) (k % n)
+
+-- the test of the code, x being the link that it read
+pub free-yes : (N n : ℕ) (t : List ℕ) (k free x : ℕ) → x ≡ link N n t (k / n) (k % n) → x ≡ k % n → free ≡ countBelow k (isFree N n t) → free + 1 ≡ countBelow (k + 1) (isFree N n t)
+free-yes N n t k free x e h c = ap (λ (y : ℕ). y + 1) c ∙ sym (count-yes (isFree N n t) k (rw (← e) (eq-eqb x (k % n) h)))
+
+pub free-no : (N n : ℕ) (t : List ℕ) (k free x : ℕ) → x ≡ link N n t (k / n) (k % n) → x ≢ k % n → free ≡ countBelow k (isFree N n t) → free ≡ countBelow (k + 1) (isFree N n t)
+free-no N n t k free x e h c = c ∙ sym (count-no (isFree N n t) k (rw (← e) (ne-eqb x (k % n) h)))
+
+pub free-end : (N n : ℕ) (t : List ℕ) (k free : ℕ) → k ≡ size N n → free ≡ countBelow k (isFree N n t) → free ≡ freePairs N n t
+unfolding freePairs
+free-end N n t k free e c = c ∙ ap (λ (x : ℕ). countBelow x (isFree N n t)) e
+
+-- floods of the cells of rank i have come to dart d
+pub record Counted (N n : ℕ) (t : List ℕ) (i d tail found : ℕ) (w : List ℕ) : Type 0 where
+  pub queue : Queue n tail w
+  pub settled : Settled (allBut i) N n t 0 tail w
+  pub traced : Traced (allBut i) N n t d w
+  pub passed : (x : ℕ) → x < d → Marked w x
+  pub count : found ≡ countBelow d (leads N n t i)
+  pub few : found ≤ d
+
+pub counted-start : (N n : ℕ) (t : List ℕ) (i : ℕ) (w w' : List ℕ) → w' ≡ blank (2 * n) w → Counted N n t i 0 0 0 w'
+counted-start N n t i w w' e = record {
+  queue = queue-blanked n w w' e;
+  settled = λ p hf ht. absurd (omega arith);
+  traced = traced-blanked n w w' e;
+  passed = λ x h. absurd (omega arith);
+  count = sym (count-none (leads N n t i));
+  few = omega arith;
+}
+
+module _ {N n : ℕ} {t : List ℕ} (v : Valid N n t) {i d tail found : ℕ} {w : List ℕ} (R : Counted N n t i d tail found w) (hd : d < n) where
+  abbrev met : ℕ → Bool
+  met e = reaches (allBut i) N n t d e
+
+  leads-no : Marked w d → leads N n t i d ≡ false
+  unfolding leads
+  leads-no m =
+      let (e, he, r) = R .traced d hd m in
+      let C = valid-closed v in
+      rw (below-some d met e he (reached-reaches (allBut i) N n t C d e hd (reached-sym C (omega arith) (linked-reached r))))
+
+  leads-yes : getD w d 0 ≡ mark → leads N n t i d ≡ true
+  unfolding leads
+  leads-yes u = go (someBelow d met) refl
+    where
+      go : (b : Bool) → someBelow d met ≡ b → not b ≡ true
+      go false q = refl
+      go true q =
+          let (e, he, r) = some-below d met q in
+          let C = valid-closed v in
+          absurd (reached-marked v (R .queue) (R .settled) (omega arith) (R .passed e he) (reached-sym C hd (reaches-reached (allBut i) N n t C d e hd (omega arith) r)) u)
+
+  passed-next : (w' : List ℕ) → ((x : ℕ) → x < d → Marked w' x) → Marked w' d → (x : ℕ) → x < d + 1 → Marked w' x
+  passed-next w' before m x h = go (ℕ-discrete x d)
+    where
+      go : Dec (x ≡ d) → Marked w' x
+      go (yes e) = rw e m
+      go (no e) = before x (omega arith)
+
+  pub counted-old : Marked w d → Counted N n t i (d + 1) tail found w
+  counted-old m = record {
+    queue = R .queue;
+    settled = R .settled;
+    traced = λ x h y. let (e, he, r) = R .traced x h y in (e, omega arith, r);
+    passed = passed-next w (R .passed) m;
+    count = R .count ∙ sym (count-no (leads N n t i) d (leads-no m));
+    few = omega (arith, R .few);
+  }
+
+  pub counted-new : {tail' : ℕ} {w' : List ℕ} → getD w d 0 ≡ mark → Flooded (allBut i) N n t d tail tail' w w' → Counted N n t i (d + 1) tail' (found + 1) w'
+  counted-new {tail'} {w'} u F =
+      let G = F .grown in
+      record {
+        queue = G .queue;
+        settled = λ p hf ht. settled-all p ht (decLt p tail);
+        traced = G .traced (d + 1) (omega arith) (λ x h y. let (e, he, r) = R .traced x h y in (e, omega arith, r));
+        passed = passed-next w' (λ x h. grown-marked G (omega arith) (R .passed x h)) (F .started);
+        count = ap (λ (x : ℕ). x + 1) (R .count) ∙ sym (count-yes (leads N n t i) d (leads-yes u));
+        few = omega (arith, R .few);
+      }
+    where
+      settled-all : (p : ℕ) → p < tail' → Dec (p < tail) → Around (allBut i) N n t (getD w' (n + p) 0) w'
+      settled-all p ht (yes h) = settled-grown v (R .queue) (F .grown) (omega arith) (R .settled) p (omega arith) h
+      settled-all p ht (no h) = F .settled p (omega arith) ht
+
+pub counted-end : {N n : ℕ} {t : List ℕ} {i d tail found : ℕ} {w : List ℕ} → Counted N n t i d tail found w → d ≡ n → found ≡ cells N n t i
+unfolding cells
+counted-end {N} {n} {t} {i} R e = R .count ∙ ap (λ (x : ℕ). countBelow x (leads N n t i)) e
+
+-- the counts of the ranks below i are there, and the others are 0
+pub record Tallied (N n : ℕ) (t : List ℕ) (i : ℕ) (counts : List ℕ) : Type 0 where
+  pub seven : length counts ≡ 7
+  pub done : (j : ℕ) → j < i → getD counts j 0 ≡ cells N n t j
+  pub rest : (j : ℕ) → i ≤ j → getD counts j 0 ≡ 0
+
+pub tallied-start : (N n : ℕ) (t : List ℕ) → Tallied N n t 0 (replicate 7 0)
+tallied-start N n t = record { seven = refl; done = λ j h. absurd (omega arith); rest = λ j h. getD-same 7 j 0 }
+
+module _ {N n i : ℕ} {t counts : List ℕ} (R : Tallied N n t i counts) where
+  pub tallied-next : (found : ℕ) → i < 7 → found ≡ cells N n t i → Tallied N n t (i + 1) (set counts i found)
+  tallied-next found h e = record {
+    seven = length-set counts i found ∙ R .seven;
+    done = λ j k. done j k (ℕ-discrete j i);
+    rest = λ j k. getD-set-other counts i j found 0 (omega arith) ∙ R .rest j (omega arith);
+  }
+    where
+      done : (j : ℕ) → j < i + 1 → Dec (j ≡ i) → getD (set counts i found) j 0 ≡ cells N n t j
+      done j k (yes q) = rw q (getD-set-same counts i found 0 (omega (arith, R .seven)) ∙ e)
+      done j k (no q) = getD-set-other counts i j found 0 q ∙ R .done j (omega arith)
+
+  pub tallied-end : i ≡ N + 1 → counts ≡ cellCounts N n t
+  unfolding cellCounts
+  tallied-end e = ext-getD 0 counts (listOf 7 count) (R .seven ∙ sym (length-listOf 7 count)) (λ j h. one j (decLe j N) ∙ sym (getD-listOf 7 count j 0 (omega (arith, R .seven))))
+    where
+      count : ℕ → ℕ
+      count j = cond (leb j N) (cells N n t j) 0
+
+      one : (j : ℕ) → Dec (j ≤ N) → getD counts j 0 ≡ count j
+      one j (yes h) = rw (le-leb j N h) (R .done j (omega arith))
+      one j (no h) = rw (lt-leb j N (omega arith)) (R .rest j (omega arith))

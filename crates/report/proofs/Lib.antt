@@ -1,0 +1,4 @@
+pub mod Floods
+pub mod Counts
+pub mod Classes
+pub mod Answers

@@ -1,0 +1,66 @@
+-- What a flood does to the lent work room: the first n entries hold each dart's class, 0 or 1, or the mark; the next n the darts marked so far, in order.
+use Prim.Native.Nat.{ℕ, _+_, _*_, _-_, _/_, _%_, _≤_, _<_}
+use mathlib.Core.Path.{_≡_}
+use mathlib.Core.Logic.{_≢_}
+use mathlib.Core.Bool.{Bool, true, cond}
+use mathlib.Core.List.{List}
+use lib.ListN.{length, getD, set, drop}
+use lib.Dec.{eqb}
+use Rattle.rules.specs.Map.{mark, link}
+
+-- dart d has a class
+abbrev pub Marked : List ℕ → ℕ → Type 0
+Marked w d = getD w d 0 ≢ mark
+
+-- the work room after a dart has come up: one that has no mark gets its class and enters the queue
+unfoldable pub enteredRoom : ℕ → List ℕ → ℕ → ℕ → ℕ → List ℕ
+enteredRoom n w tail d class = cond (eqb (getD w d 0) mark) (set (set w d class) (n + tail) d) w
+
+-- the queue's length after it
+unfoldable pub enteredTail : List ℕ → ℕ → ℕ → ℕ
+enteredTail w tail d = cond (eqb (getD w d 0) mark) (tail + 1) tail
+
+-- the queue holds each marked dart once and no other dart
+pub record Queue (n tail : ℕ) (w : List ℕ) : Type 0 where
+  pub room : 2 * n ≤ length w
+  pub short : tail ≤ n
+  pub darts : (p : ℕ) → p < tail → getD w (n + p) 0 < n
+  pub classes : (p : ℕ) → p < tail → getD w (getD w (n + p) 0) 0 < 2
+  pub once : (p q : ℕ) → p < tail → q < tail → getD w (n + p) 0 ≡ getD w (n + q) 0 → p ≡ q
+  pub entered : (d : ℕ) → d < n → Marked w d → (p : ℕ) × (p < tail) × (getD w (n + p) 0 ≡ d)
+
+-- dart e is reached from dart d by links of the ranks kept; the last number is 0 after an even number of links, 1 after an odd one
+pub data Linked (keep : ℕ → Bool) (N n : ℕ) (t : List ℕ) (d : ℕ) : ℕ → ℕ → Type 0 where
+  here : Linked keep N n t d d 0
+  onward : {e m : ℕ} (i : ℕ) → i ≤ N → keep i ≡ true → Linked keep N n t d e m → Linked keep N n t d (link N n t i e) (1 - m)
+
+-- every marked dart is reached from a dart below the bound, and its class says by how many links
+abbrev pub Traced : (ℕ → Bool) → ℕ → ℕ → List ℕ → ℕ → List ℕ → Type 0
+Traced keep N n t bound w = (d : ℕ) → d < n → Marked w d → (e : ℕ) × (e < bound) × Linked keep N n t e d (getD w d 0)
+
+-- the links of the ranks kept lead from a dart to marked ones
+abbrev pub Around : (ℕ → Bool) → ℕ → ℕ → List ℕ → ℕ → List ℕ → Type 0
+Around keep N n t d w = (i : ℕ) → i ≤ N → keep i ≡ true → Marked w (link N n t i d)
+
+-- they do so from each dart of the queue from one place up to another
+abbrev pub Settled : (ℕ → Bool) → ℕ → ℕ → List ℕ → ℕ → ℕ → List ℕ → Type 0
+Settled keep N n t from to w = (p : ℕ) → from ≤ p → p < to → Around keep N n t (getD w (n + p) 0) w
+
+-- a flood has gone on from one work room to another: what was there stays, and what is new is traced to where the old is, or to a dart below `least`
+pub record Grown (keep : ℕ → Bool) (N n : ℕ) (t : List ℕ) (least tail tail' : ℕ) (w w' : List ℕ) : Type 0 where
+  pub queue : Queue n tail' w'
+  pub longer : tail ≤ tail'
+  pub past : drop (2 * n) w' ≡ drop (2 * n) w
+  pub kept : (d : ℕ) → d < n → Marked w d → getD w' d 0 ≡ getD w d 0
+  pub same : (p : ℕ) → p < tail → getD w' (n + p) 0 ≡ getD w (n + p) 0
+  pub traced : (bound : ℕ) → least ≤ bound → Traced keep N n t bound w → Traced keep N n t bound w'
+
+-- a flood has ended: its start is marked, and no link of the ranks kept leads out of what it marked
+pub record Flooded (keep : ℕ → Bool) (N n : ℕ) (t : List ℕ) (start tail tail' : ℕ) (w w' : List ℕ) : Type 0 where
+  pub grown : Grown keep N n t (start + 1) tail tail' w w'
+  pub started : Marked w' start
+  pub settled : Settled keep N n t tail tail' w'
+
+-- the k-th link, by rank, then dart, stays within a class
+unfoldable pub alike : ℕ → ℕ → List ℕ → List ℕ → ℕ → Bool
+alike N n t w k = eqb (getD w (k % n) 0) (getD w (link N n t (k / n) (k % n)) 0)

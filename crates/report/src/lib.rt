@@ -1,0 +1,201 @@
+// The cell report: one flood over lent work room serves the cells of each rank and the two classes.
+// The first n entries hold each dart's class, 0 or 1, or the mark; the next n the darts marked so far, in the order in which they were.
+use rules::ReportAnswer;
+use rules::Session;
+ghost use mathlib.Core.Path.{_≡_};
+ghost use mathlib.Core.Bool.{true};
+ghost use Prim.Native.Nat.{_+_, _*_, _≤_, _<_};
+ghost use lib.ListN.{length, getD, drop};
+ghost use Rattle.rules.specs.Lists.{first};
+ghost use Rattle.rules.specs.Map.{Limits, Valid, Connected, size, link, allBut};
+ghost use Rattle.rules.specs.Report.{cellCounts, freePairs, reportAnswer, reportWork};
+ghost use Rattle.report.specs.Flood.{Marked, enteredRoom, enteredTail, Queue, Around, Grown, Flooded, alike};
+
+// A dart that has no mark gets its class and enters the queue. The answer is the queue's length.
+pub fn enter(work: &mut [u16], darts: usize, tail: usize, dart: u16, class: u16) -> usize
+    requires { ⌜ (darts ≤ 4096) × Queue darts tail (now work) × (dart < darts) ⌝ }
+    ensures { λ r. ⌜ (r ≡ enteredTail (now (work .entry)) tail dart) × (now (work .exit) ≡ enteredRoom darts (now (work .entry)) tail dart class) ⌝ }
+{
+    let d = dart as usize;
+    if work[d] != Session::NO_LINK {
+        return tail;
+    }
+    work[d] = class;
+    work[darts + tail] = dart;
+    tail + 1
+}
+
+// The link of one rank, if it is kept, is followed from a dart.
+pub fn follow(
+    tables: &[u16],
+    work: &mut [u16],
+    dim: usize,
+    darts: usize,
+    skip: usize,
+    rank: usize,
+    tail: usize,
+    dart: u16,
+) -> usize
+    requires { ⌜ Limits dim darts (now tables) × Valid dim darts (now tables) × Queue darts tail (now work) × (rank ≤ dim) × (dart < darts) × (getD (now work) dart 0 < 2) ⌝ }
+    ensures { λ r. ⌜ Grown (allBut skip) dim darts (now (tables .entry)) 0 tail r (now (work .entry)) (now (work .exit)) × (allBut skip rank ≡ true → Marked (now (work .exit)) (link dim darts (now (tables .entry)) rank dart)) ⌝ }
+{
+    if rank == skip {
+        return tail;
+    }
+    let d = dart as usize;
+    let x = tables::link(tables, dim, darts, rank, dart);
+    let class = 1 - work[d];
+    enter(work, darts, tail, x, class)
+}
+
+// The links of all ranks but one are followed from a dart.
+pub fn spread(
+    tables: &[u16],
+    work: &mut [u16],
+    dim: usize,
+    darts: usize,
+    skip: usize,
+    tail: usize,
+    dart: u16,
+) -> usize
+    requires { ⌜ Limits dim darts (now tables) × Valid dim darts (now tables) × Queue darts tail (now work) × (dart < darts) × (getD (now work) dart 0 < 2) ⌝ }
+    ensures { λ r. ⌜ Grown (allBut skip) dim darts (now (tables .entry)) 0 tail r (now (work .entry)) (now (work .exit)) × Around (allBut skip) dim darts (now (tables .entry)) dart (now (work .exit)) ⌝ }
+{
+    let mut end = tail;
+    let mut i = 0;
+    while i <= dim {
+        end = follow(tables, work, dim, darts, skip, i, end, dart);
+        i += 1;
+    }
+    end
+}
+
+// All that is reached from a dart is marked.
+pub fn flood(
+    tables: &[u16],
+    work: &mut [u16],
+    dim: usize,
+    darts: usize,
+    skip: usize,
+    tail: usize,
+    dart: u16,
+) -> usize
+    requires { ⌜ Limits dim darts (now tables) × Valid dim darts (now tables) × Queue darts tail (now work) × (dart < darts) ⌝ }
+    ensures { λ r. ⌜ Flooded (allBut skip) dim darts (now (tables .entry)) dart tail r (now (work .entry)) (now (work .exit)) ⌝ }
+{
+    let mut end = enter(work, darts, tail, dart, 0);
+    let mut head = tail;
+    while head < end {
+        let next = work[darts + head];
+        end = spread(tables, work, dim, darts, skip, end, next);
+        head += 1;
+    }
+    end
+}
+
+// The number of cells of a rank: a flood from each dart that none before it reached.
+pub fn cells(tables: &[u16], work: &mut [u16], dim: usize, darts: usize, skip: usize) -> u32
+    requires { ⌜ Limits dim darts (now tables) × Valid dim darts (now tables) × (2 * darts ≤ length (now work)) ⌝ }
+    ensures { λ r. ⌜ (r ≡ Rattle.rules.specs.Report.cells dim darts (now (tables .entry)) skip) × (drop (2 * darts) (now (work .exit)) ≡ drop (2 * darts) (now (work .entry))) ⌝ }
+{
+    tables::blank(work, 2 * darts);
+    let mut found: u32 = 0;
+    let mut tail = 0;
+    let mut d = 0;
+    while d < darts {
+        if work[d] == Session::NO_LINK {
+            tail = flood(tables, work, dim, darts, skip, tail, d as u16);
+            found += 1;
+        }
+        d += 1;
+    }
+    found
+}
+
+// The number of cells of each rank; past N it is 0.
+pub fn cell_counts(tables: &[u16], work: &mut [u16], dim: usize, darts: usize) -> [u32; 7]
+    requires { ⌜ Limits dim darts (now tables) × Valid dim darts (now tables) × (2 * darts ≤ length (now work)) ⌝ }
+    ensures { λ r. ⌜ (r ≡ cellCounts dim darts (now (tables .entry))) × (drop (2 * darts) (now (work .exit)) ≡ drop (2 * darts) (now (work .entry))) ⌝ }
+{
+    let mut counts = [0u32; 7];
+    let mut i = 0;
+    while i <= dim {
+        counts[i] = cells(tables, work, dim, darts, i);
+        i += 1;
+    }
+    counts
+}
+
+// The number of free (rank, dart) pairs.
+pub fn free_pairs(tables: &[u16], dim: usize, darts: usize) -> u32
+    requires { ⌜ Limits dim darts (now tables) ⌝ }
+    ensures { λ r. ⌜ r ≡ freePairs dim darts (now (tables .entry)) ⌝ }
+{
+    let size = (dim + 1) * darts;
+    let mut free: u32 = 0;
+    let mut k = 0;
+    while k < size {
+        let dart = (k % darts) as u16;
+        if tables::link(tables, dim, darts, k / darts, dart) == dart {
+            free += 1;
+        }
+        k += 1;
+    }
+    free
+}
+
+// The first link, counted by rank, then dart, that stays within a class, or (N+1)·n.
+pub fn first_alike(tables: &[u16], work: &[u16], dim: usize, darts: usize) -> usize
+    requires { ⌜ Limits dim darts (now tables) × Valid dim darts (now tables) × (darts ≤ length (now work)) ⌝ }
+    ensures { λ r. ⌜ r ≡ first (alike dim darts (now (tables .entry)) (now (work .entry))) (size dim darts) ⌝ }
+{
+    let size = (dim + 1) * darts;
+    let mut k = 0;
+    while k < size {
+        let d = k % darts;
+        let x = tables::link(tables, dim, darts, k / darts, d as u16) as usize;
+        if work[d] == work[x] {
+            return k;
+        }
+        k += 1;
+    }
+    k
+}
+
+// Can the darts be put in two classes so that every ai takes each dart to the other? A flood from dart 0 by all ranks gives the only two that may do.
+pub fn orientable(tables: &[u16], work: &mut [u16], dim: usize, darts: usize) -> bool
+    requires { ⌜ Limits dim darts (now tables) × Valid dim darts (now tables) × Connected dim darts (now tables) 0 × (2 * darts ≤ length (now work)) ⌝ }
+    ensures { λ r. ⌜ (r ≡ Rattle.rules.specs.Report.orientable dim darts (now (tables .entry))) × (drop (2 * darts) (now (work .exit)) ≡ drop (2 * darts) (now (work .entry))) ⌝ }
+{
+    tables::blank(work, 2 * darts);
+    flood(tables, work, dim, darts, dim + 1, 0, 0);
+    let size = (dim + 1) * darts;
+    first_alike(tables, work, dim, darts) == size
+}
+
+// The cell report of posted tables.
+pub fn report(dim: usize, darts: usize, tables: &[u16], work: &mut [u16]) -> ReportAnswer
+    ensures { λ r. ⌜ (r ≡ reportAnswer dim darts (now (tables .entry)) (now (work .entry))) × (now (work .exit) ≡ reportWork dim darts (now (tables .entry)) (now (work .entry))) ⌝ }
+{
+    let c = walk::check(dim, darts, 0, tables, work);
+    if c.number != 0 {
+        return ReportAnswer {
+            number: c.number,
+            place: c.place,
+            cells: [0u32; 7],
+            free: 0,
+            orientable: false,
+        };
+    }
+    let cells = cell_counts(tables, work, dim, darts);
+    let free = free_pairs(tables, dim, darts);
+    let orientable = orientable(tables, work, dim, darts);
+    tables::blank(work, 2 * darts);
+    ReportAnswer {
+        number: 0,
+        place: 0,
+        cells,
+        free,
+        orientable,
+    }
+}
