@@ -48,7 +48,7 @@ unfolding pack
 length-pack zero bs = refl
 length-pack (suc k) bs = ap suc (length-pack k (drop 8 bs))
 
-filled-length : (bs : List Bool) → length (filled bs) ≡ (length bs + 7) / 8
+pub filled-length : (bs : List Bool) → length (filled bs) ≡ (length bs + 7) / 8
 unfolding filled
 filled-length bs = length-pack _ _
 

@@ -21,7 +21,7 @@ use Rattle.rules.proofs.Links.{next-below}
 use Rattle.rules.proofs.Walks.{sum-set, next-of}
 use Rattle.rules.proofs.Codes.{length-bits}
 use Rattle.rules.proofs.Runs.{total, steps-total, codes-append}
-use Rattle.rules.proofs.Names.{name}
+use Rattle.rules.proofs.Names.{name, room}
 use Rattle.rules.proofs.Numbering.{After, Kept, after-kept}
 use Rattle.rules.proofs.Streams.{symbols-few}
 use Rattle.walk.specs.Numbers.{writesIn, bitsFor, countAfter, given, workFor, stepped, lowestFrom, roomOf, Newcomer}
@@ -137,6 +137,31 @@ newcomer-in N n m root k w names x K =
 stepping-same : (N n : ℕ) (m : List ℕ) (w : Walk) (names work : List ℕ) (j c c' p p' : ℕ) → c ≡ c' → p' ≡ p → Stepping N n m w names j (writesIn N n m work c' j p') → Stepping N n m w names j (writesIn N n m work c j p)
 stepping-same N n m w names work j c c' p p' e f x = rw (e, ← f) x
 
+output-same : (s z : Output) (names : List ℕ) → symbolsFor s ≡ symbolsFor z → namesFor s names ≡ namesFor z names → s ≡ z
+unfolding symbolsFor namesFor
+output-same Nothing Nothing names p q = refl
+output-same Nothing Border names p q = let z : _≡_ {A = ℕ} 0 1 = cc in absurd (omega arith)
+output-same Nothing (New x) names p q = let z : _≡_ {A = ℕ} 0 1 = cc in absurd (omega arith)
+output-same Nothing (Index e) names p q = let z : _≡_ {A = ℕ} 0 1 = cc in absurd (omega arith)
+output-same Border Nothing names p q = let z : _≡_ {A = ℕ} 0 1 = cc in absurd (omega arith)
+output-same Border Border names p q = refl
+output-same Border (New x) names p q = let z : _≡_ {A = ℕ} 0 1 = cc in absurd (omega arith)
+output-same Border (Index e) names p q = let z : _≡_ {A = ℕ} 0 1 = cc in absurd (omega arith)
+output-same (New x) Nothing names p q = let z : _≡_ {A = ℕ} 0 1 = cc in absurd (omega arith)
+output-same (New x) Border names p q = let z : _≡_ {A = ℕ} 0 1 = cc in absurd (omega arith)
+output-same (New x) (New y) names p q =
+    let e : x .0 ≡ y .0 = sym (name-last names (x .0)) ∙ (ap (λ (l : List ℕ). name l (length names)) q ∙ name-last names (y .0)) in
+    λ i. New (record { 0 = e i })
+output-same (New x) (Index e) names p q = let z : _≡_ {A = ℕ} 0 1 = cc in absurd (omega arith)
+output-same (Index e) Nothing names p q = let z : _≡_ {A = ℕ} 0 1 = cc in absurd (omega arith)
+output-same (Index e) Border names p q = let z : _≡_ {A = ℕ} 0 1 = cc in absurd (omega arith)
+output-same (Index e) (New x) names p q = let z : _≡_ {A = ℕ} 0 1 = cc in absurd (omega arith)
+output-same (Index e) (Index f) names p q = let h : e .0 ≡ f .0 = cc in λ i. Index (record { 0 = h i })
+
+-- what is written and named tells the output
+wrote-same : (s z : Output) (w w' : Walk) (names : List ℕ) → Written.wrote (symbolsFor s) w (namesFor s names) ≡ Written.wrote (symbolsFor z) w' (namesFor z names) → s ≡ z
+wrote-same s z w w' names e = output-same s z names (cc) (cc)
+
 -- the room after a step
 room-step : (N n : ℕ) (m : List ℕ) (root k : ℕ) (w : Walk) (names work work0 : List ℕ) (c : ℕ) (s : Output) → Kept N n m root k w (namesFor s names) → c ≡ length names → work ≡ roomOf n names work0
     → workFor n s c work ≡ roomOf n (namesFor s names) work0
@@ -164,10 +189,10 @@ module _ (N n : ℕ) (m : List ℕ) (root : ℕ) (h6 : N ≤ 6) (hn : n ≤ 4096
   kept G = after-kept N n m root h6 hn hr A (G .after)
 
   -- the room's names: at most n of them
-  names-le : {g : Numbering} {work : List ℕ} (G : Going N n m root work0 g work) → length (G .names) ≤ n
+  pub names-le : {g : Numbering} {work : List ℕ} (G : Going N n m root work0 g work) → length (G .names) ≤ n
   names-le G = let K = kept G in omega (arith, K .named .len, K .inv .shape .within, K .darts)
 
-  agrees : {g : Numbering} {work : List ℕ} (G : Going N n m root work0 g work) → Agrees n (G .names) work
+  pub agrees : {g : Numbering} {work : List ℕ} (G : Going N n m root work0 g work) → Agrees n (G .names) work
   agrees G =
       let K = kept G in
       rw (G .room) (room-agrees n (G .names) work0 (names-le G) hn (λ b h. rw (K .darts) at (K .named .low b (omega (arith, K .named .len)))))
@@ -196,6 +221,11 @@ module _ (N n : ℕ) (m : List ℕ) (root : ℕ) (h6 : N ≤ 6) (hn : n ≤ 4096
     where
       z : enough N n - 0 ≡ enough N n
       z = omega arith
+
+  -- at the start all is left to write
+  pub going-start-left : (write (enough N n - going-start .done) m (going-start .walk) (going-start .names)) .symbols ≡ symbolsOf N n m root
+  unfolding going-start symbolsOf walked
+  going-start-left = let z : enough N n - 0 ≡ enough N n = omega arith in rw z
 
   module _ {g : Numbering} {work : List ℕ} (G : Going N n m root work0 g work) where
     w : Walk
@@ -231,13 +261,23 @@ module _ (N n : ℕ) (m : List ℕ) (root : ℕ) (h6 : N ≤ 6) (hn : n ≤ 4096
             let t = next-of w (K .inv) q in
             absurd (omega (arith, lowest-walk, lowest-here w (K .inv .shape) i b t (suc (w .dim)) 0 (omega arith) (omega arith), t .next .ranked, K .dim))
 
-    step-going : (j b : ℕ) → head (G .walk) ≡ Head.at j b → b ≡ getD (g .positions) j 0
-        → Going N n m root work0 (stepped (writesIn N n m work (g .count) j (getD (g .positions) j 0)) j g) (workFor n (writesIn N n m work (g .count) j (getD (g .positions) j 0)) (g .count) work)
+    -- the next turn: where the numbering then stands, and what is then left to write
+    pub record Onward (j : ℕ) (s : Output) : Type 0 where
+      pub going : Going N n m root work0 (stepped s j g) (workFor n s (g .count) work)
+      pub left : write (enough N n - G .done) m (G .walk) (G .names) ≡ prepend (symbolsFor s) (write (enough N n - going .done) m (going .walk) (going .names))
+
+    -- a step of the rules by any room that agrees with the names
+    step-by : (room : List ℕ) → Agrees n (G .names) room → (j b : ℕ) → head (G .walk) ≡ Head.at j b → b ≡ getD (g .positions) j 0
+        → Stepping N n m (G .walk) (G .names) j (writesIn N n m room (g .count) j (getD (g .positions) j 0))
+    step-by room R j b h eb =
+        stepping-same N n m (G .walk) (G .names) room j (g .count) (G .walk .count) (getD (g .positions) j 0) b (G .count) eb
+        (stepping N n m root (G .done) (G .walk) (G .names) room (kept G) A R j b h)
+
+    step-going : (j b : ℕ) → head (G .walk) ≡ Head.at j b → b ≡ getD (g .positions) j 0 → Onward j (writesIn N n m work (g .count) j (getD (g .positions) j 0))
     step-going j b h eb =
         let s = writesIn N n m work (g .count) j (getD (g .positions) j 0) in
         let K = kept G in
-        let y : Stepping N n m (G .walk) (G .names) j s =
-        stepping-same N n m (G .walk) (G .names) work j (g .count) (G .walk .count) (getD (g .positions) j 0) b (G .count) eb (stepping N n m root (G .done) (G .walk) (G .names) work K A (agrees G) j b h) in
+        let y : Stepping N n m (G .walk) (G .names) j s = step-by work (agrees G) j b h eb in
         let a : After N n m root (suc (G .done)) (y .walk) (namesFor s (G .names)) = After.next (G .after) (y .step) in
         let K' = after-kept N n m root h6 hn hr A a in
         let d = going-done G .1 in
@@ -245,30 +285,48 @@ module _ (N n : ℕ) (m : List ℕ) (root : ℕ) (h6 : N ≤ 6) (hn : n ≤ 4096
         let q : write (enough N n - G .done) m (G .walk) (G .names) ≡ prepend (symbolsFor s) (write (enough N n - suc (G .done)) m (y .walk) (namesFor s (G .names))) =
         ap (λ (x : ℕ). write x m (G .walk) (G .names)) f ∙ write-next (enough N n - suc (G .done)) m (G .walk) (y .walk) (G .names) (namesFor s (G .names)) (symbolsFor s) (y .step) in
         record {
-          done = suc (G .done);
-          walk = y .walk;
-          names = namesFor s (G .names);
-          after = a;
-          room = room-step N n m root (suc (G .done)) (y .walk) (G .names) work work0 (g .count) s K' (G .count ∙ sym (K .named .len)) (G .room);
-          positions = ap (λ (l : List ℕ). set l j (getD l j 0 + 1)) (G .positions) ∙ sym (y .positions);
-          count = ap (countAfter s) (G .count) ∙ sym (y .count);
-          symbols = left-bits (g .bits) _ s _ _ q (G .symbols);
-          ends = left-names s _ _ _ q (G .ends);
+          going = record {
+            done = suc (G .done);
+            walk = y .walk;
+            names = namesFor s (G .names);
+            after = a;
+            room = room-step N n m root (suc (G .done)) (y .walk) (G .names) work work0 (g .count) s K' (G .count ∙ sym (K .named .len)) (G .room);
+            positions = ap (λ (l : List ℕ). set l j (getD l j 0 + 1)) (G .positions) ∙ sym (y .positions);
+            count = ap (countAfter s) (G .count) ∙ sym (y .count);
+            symbols = left-bits (g .bits) _ s _ _ q (G .symbols);
+            ends = left-names s _ _ _ q (G .ends);
+          };
+          left = q;
         }
 
     -- a turn of the loop
+    pub going-onward : (j : ℕ) → lowestFrom (N + 1) 0 (g .count) (g .positions) ≡ j → j ≤ N → Onward j (writesIn N n m work (g .count) j (getD (g .positions) j 0))
+    going-onward j e hj = step-going j (getD (g .positions) j 0) (going-head j e hj) refl
+
     pub going-step : (j : ℕ) → lowestFrom (N + 1) 0 (g .count) (g .positions) ≡ j → j ≤ N
         → Going N n m root work0 (stepped (writesIn N n m work (g .count) j (getD (g .positions) j 0)) j g) (workFor n (writesIn N n m work (g .count) j (getD (g .positions) j 0)) (g .count) work)
-    going-step j e hj = step-going j (getD (g .positions) j 0) (going-head j e hj) refl
+    going-step j e hj = going-onward j e hj .going
+
+    -- any room that agrees with the names tells the same
+    pub going-same : (room : List ℕ) → Agrees n (G .names) room → (j : ℕ) → lowestFrom (N + 1) 0 (g .count) (g .positions) ≡ j → j ≤ N
+        → writesIn N n m room (g .count) j (getD (g .positions) j 0) ≡ writesIn N n m work (g .count) j (getD (g .positions) j 0)
+    going-same room R j e hj =
+        let h = going-head j e hj in
+        let x = step-by room R j (getD (g .positions) j 0) h refl in
+        let y = step-by work (agrees G) j (getD (g .positions) j 0) h refl in
+        wrote-same _ _ (x .walk) (y .walk) (G .names) (sym (x .step) ∙ y .step)
+
+    -- at the end nothing is left to write
+    pub going-over : N < lowestFrom (N + 1) 0 (g .count) (g .positions) → write (enough N n - G .done) m (G .walk) (G .names) ≡ record { symbols = []; names = G .names }
+    going-over h =
+        let d = going-done G .1 in
+        let f : enough N n - G .done ≡ suc (enough N n - suc (G .done)) = omega arith in
+        ap (λ (x : ℕ). write x m (G .walk) (G .names)) f ∙ write-end (enough N n - suc (G .done)) m (G .walk) (G .names) (going-none h)
 
     -- the loop's end: the room holds the names of the whole walk, and the bits are those of its symbols
     pub going-end : N < lowestFrom (N + 1) 0 (g .count) (g .positions) → (work ≡ roomOf n (namesOf N n m root) work0) × (g .bits ≡ length (codes (symbolsOf N n m root)))
     going-end h =
-        let o = going-none h in
-        let d = going-done G .1 in
-        let f : enough N n - G .done ≡ suc (enough N n - suc (G .done)) = omega arith in
-        let q : write (enough N n - G .done) m (G .walk) (G .names) ≡ record { symbols = []; names = G .names } =
-        ap (λ (x : ℕ). write x m (G .walk) (G .names)) f ∙ write-end (enough N n - suc (G .done)) m (G .walk) (G .names) o in
+        let q = going-over h in
         let e : G .names ≡ namesOf N n m root = sym (ap (λ (x : Walked). x .names) q) ∙ G .ends in
         let z : length (codes ((write (enough N n - G .done) m (G .walk) (G .names)) .symbols)) ≡ 0 = ap (λ (x : Walked). length (codes (x .symbols))) q ∙ none in
         (G .room ∙ ap (λ (l : List ℕ). roomOf n l work0) e, omega (arith, G .symbols))

@@ -1,0 +1,394 @@
+-- Laws of the tests of fitness: a loop over all numbers below a bound, then each function's answers, one way through its code at a time. Rests on the
+-- rules' Lists and Codes.
+use Prim.Native.Nat.{ℕ, suc, _+_, _*_, _-_, _/_, _%_, _≤_, _<_, _^_}
+use mathlib.Core.Path.{_≡_, refl, ap, sym, _∙_}
+use mathlib.Core.Logic.{_≢_}
+use mathlib.Core.Bool.{Bool, true, false, not, _&&_, _||_}
+use mathlib.Core.List.{List, _∷_}
+use native.Mathlib.Omega.{arith}
+use native.Mathlib.Nat.{div-lt-iff-lt-mul, pow-suc, mul-le-mul, div-eq-of-lt-le}
+use native.Mathlib.Decide.{ℕ-discrete, decLt}
+use lib.ListN.{length, getD}
+use lib.Dec.{eqb, ltb, leb}
+use borrow.Author.Tests.{eq-eqb, ne-eqb, lt-ltb, not-true, leb-true, le-leb, lt-leb, le-ltb, not-false}
+use lib.Pow.{pow-pos}
+use native.Mathlib.Numerals.{add-one}
+use Rattle.rules.specs.declared.Session.{Session}
+use Rattle.rules.specs.declared.State.{State}
+use Rattle.steps.specs.declared.Stand.{Stand}
+use Rattle.rules.specs.declared.State.the-variants.{Header, Running, Complete, Closed, Refused}
+use Rattle.rules.specs.Lists.{allBelow}
+use Rattle.rules.specs.Map.{dimFits, dartsFit, size, link, Limits}
+use Rattle.rules.specs.Walk.{head}
+use Rattle.rules.specs.Stream.{bitsOf}
+use Rattle.rules.specs.Session.{walkOf, waitingOf, valueFits, onlyBits, positionsFit, entryFits, entriesFit, walkFits, asks, begins, allDone, fitAs, fit}
+use Rattle.rules.proofs.Lists.{and-left, and-right, or-left, or-right, not-both, all-below, below-all}
+use Rattle.rules.proofs.Codes.{length-bits}
+use Rattle.fitness.specs.Parts.{fallsAt, isAt, overAt, entryBy, entryAt, standing, asksAt}
+
+-- tests whose other side is known
+and-no : (a : Bool) → (a && false) ≡ false
+and-no true = refl
+and-no false = refl
+
+and-yes : (a : Bool) → (a && true) ≡ a
+and-yes true = refl
+and-yes false = refl
+
+or-no : (a : Bool) → (a || false) ≡ a
+or-no true = refl
+or-no false = refl
+
+or-yes : (a : Bool) → (a || true) ≡ true
+or-yes true = refl
+or-yes false = refl
+
+-- of the numbers below k, all before i pass the test
+pub record Passed (f : ℕ → Bool) (k i : ℕ) : Type 0 where
+  pub upTo : i ≤ k
+  pub all : (x : ℕ) → x < i → f x ≡ true
+
+pub passed-start : (f : ℕ → Bool) (k : ℕ) → Passed f k 0
+passed-start f k = record { upTo = omega arith; all = λ x h. absurd (omega arith) }
+
+module _ {f : ℕ → Bool} {k i : ℕ} (p : Passed f k i) where
+  pub passed-next : i < k → f i ≡ true → Passed f k (i + 1)
+  passed-next h q = record { upTo = omega arith; all = λ x l. go x l (ℕ-discrete x i) }
+    where
+      go : (x : ℕ) → x < i + 1 → Dec (x ≡ i) → f x ≡ true
+      go x l (yes e) = rw e q
+      go x l (no e) = p .all x (omega arith)
+
+  pub passed-end : k ≤ i → true ≡ allBelow k f
+  passed-end h = sym (below-all k f (λ x l. p .all x (omega arith)))
+
+pub fails-at : (f : ℕ → Bool) (k i : ℕ) → i < k → f i ≡ false → false ≡ allBelow k f
+fails-at f k i h q = go (allBelow k f) refl
+  where
+    go : (b : Bool) → allBelow k f ≡ b → false ≡ allBelow k f
+    go true e = absurd (not-both (f i) (all-below k f e i h) q)
+    go false e = sym e
+
+-- positions
+pub is-yes : (ps : List ℕ) (x i : ℕ) → getD ps i 0 ≡ x → isAt ps x i ≡ true
+unfolding isAt
+is-yes ps x i e = eq-eqb (getD ps i 0) x e
+
+pub is-no : (ps : List ℕ) (x i : ℕ) → getD ps i 0 ≢ x → isAt ps x i ≡ false
+unfolding isAt
+is-no ps x i e = ne-eqb (getD ps i 0) x e
+
+module _ (c above : ℕ) (ps : List ℕ) (i : ℕ) (e : above ≡ getD (c ∷ ps) i 0) where
+  pub falls-no : above < getD ps i 0 → fallsAt c ps i ≡ false
+  unfolding fallsAt
+  falls-no h = rw (← e) (lt-leb (getD ps i 0) above h)
+
+  pub falls-yes : getD ps i 0 ≤ above → fallsAt c ps i ≡ true
+  unfolding fallsAt
+  falls-yes h = rw (← e) (le-leb (getD ps i 0) above h)
+
+pub next-above : (c : ℕ) (ps : List ℕ) (i : ℕ) → getD ps i 0 ≡ getD (c ∷ ps) (i + 1) 0
+next-above c ps i = let e : i + 1 ≡ suc i = omega arith in rw e
+
+pub past-start : (N : ℕ) (ps : List ℕ) → N ≤ 6 → Passed (overAt N ps) 7 (N + 1)
+unfolding overAt
+past-start N ps h = record { upTo = omega arith; all = λ x l. or-left (leb x N) (eqb (getD ps x 0) 0) (le-leb x N (omega arith)) }
+
+pub past-no : (N : ℕ) (ps : List ℕ) (i : ℕ) → N < i → getD ps i 0 ≢ 0 → overAt N ps i ≡ false
+unfolding overAt
+past-no N ps i h ne = rw (lt-leb i N h) (ne-eqb (getD ps i 0) 0 ne)
+
+pub past-yes : (N : ℕ) (ps : List ℕ) (i : ℕ) → getD ps i 0 ≡ 0 → overAt N ps i ≡ true
+unfolding overAt
+past-yes N ps i e = or-right (leb i N) (eqb (getD ps i 0) 0) (eq-eqb (getD ps i 0) 0 e)
+
+-- an entry
+module _ (N n : ℕ) (t : List ℕ) (c : ℕ) (ps : List ℕ) (k x : ℕ) (ex : x ≡ link N n t (k / n) (k % n)) (r : Bool) (er : r ≡ entryBy c (getD ps (k / n) 0) (k % n) x) where
+  pub entry-yes : not r ≡ false → entryAt N n t c ps k ≡ true
+  unfolding entryAt
+  entry-yes h = rw (← ex, ← er) (not-false r h)
+
+  pub entry-no : not r ≡ true → entryAt N n t c ps k ≡ false
+  unfolding entryAt
+  entry-no h = rw (← ex, ← er) (not-true r h)
+
+module _ (c p d x : ℕ) where
+  pub entry-unnumbered : c ≤ d → eqb x 65535 ≡ entryBy c p d x
+  unfolding entryBy
+  entry-unnumbered h = rw (le-ltb d c h)
+
+  pub entry-none : d < c → x ≡ 65535 → leb p d ≡ entryBy c p d x
+  unfolding entryBy
+  entry-none h e = rw (lt-ltb d c h, eq-eqb x 65535 e, or-yes, or-no)
+
+  pub entry-link : d < c → x ≢ 65535 → ltb x c ≡ entryBy c p d x
+  unfolding entryBy
+  entry-link h e = rw (lt-ltb d c h, ne-eqb x 65535 e, or-no, or-yes, and-yes)
+
+-- bits
+pub begins-many : (k x : ℕ) → 13 < k → false ≡ (leb k 13 && ltb x (2 ^ k) && begins (bitsOf k x))
+begins-many k x h = rw (lt-leb k 13 h)
+
+pub begins-none : (k x : ℕ) → k ≡ 0 → eqb x 0 ≡ (leb k 13 && ltb x (2 ^ k) && begins (bitsOf k x))
+unfolding begins bitsOf
+begins-none k x e = rw e (go (ℕ-discrete x 0))
+  where
+    go : Dec (x ≡ 0) → eqb x 0 ≡ (ltb x 1 && true)
+    go (yes q) = rw q
+    go (no q) = rw (ne-eqb x 0 q, le-ltb x 1 (omega arith))
+
+pub begins-one : (k x : ℕ) → k ≡ 1 → eqb x 1 ≡ (leb k 13 && ltb x (2 ^ k) && begins (bitsOf k x))
+unfolding begins bitsOf
+begins-one k x e = rw e (go (ℕ-discrete x 0) (ℕ-discrete x 1))
+  where
+    go : Dec (x ≡ 0) → Dec (x ≡ 1) → eqb x 1 ≡ (ltb x 2 && begins (bitsOf 1 x))
+    go (yes q) r = rw q
+    go (no q) (yes r) = rw r
+    go (no q) (no r) = rw (ne-eqb x 1 r, le-ltb x 2 (omega arith))
+
+-- two bits of weight 2h and h, and j bits below them
+begins-two : (j x : ℕ) → j ≤ 11 → eqb (x / 2 ^ j) 3 ≡ (ltb x (2 ^ suc (suc j)) && begins (bitsOf (suc (suc j)) x))
+unfolding begins bitsOf
+begins-two j x hj = go (decLt x (2 ^ suc j)) (decLt x (3 * 2 ^ j)) (decLt x (4 * 2 ^ j))
+  where
+    p : 2 ^ suc j ≡ 2 * 2 ^ j
+    p = pow-suc 2 j ∙ omega arith
+
+    q : 2 ^ suc (suc j) ≡ 4 * 2 ^ j
+    q = pow-suc 2 (suc j) ∙ omega (arith, p)
+
+    z : 1 ≤ 2 ^ j
+    z = pow-pos j
+
+    go : Dec (x < 2 ^ suc j) → Dec (x < 3 * 2 ^ j) → Dec (x < 4 * 2 ^ j) → eqb (x / 2 ^ j) 3 ≡ (ltb x (2 ^ suc (suc j)) && begins (bitsOf (suc (suc j)) x))
+    go (yes a) b c =
+        let n : x / 2 ^ j < 2 = div-lt-iff-lt-mul z .1 (omega (arith, p)) in
+        rw (ne-eqb (x / 2 ^ j) 3 (omega arith), lt-leb (2 ^ suc j) x a, and-no)
+    go (no a) (yes b) c =
+        let n : x / 2 ^ j < 3 = div-lt-iff-lt-mul z .1 b in
+        rw (ne-eqb (x / 2 ^ j) 3 (omega arith), le-leb (2 ^ suc j) x (omega arith), lt-leb (2 ^ j) (x - 2 ^ suc j) (omega (arith, p)), and-no)
+    go (no a) (no b) (yes c) =
+        let n : x / 2 ^ j ≡ 3 = div-eq-of-lt-le (2 ^ j) (omega arith) (omega arith) in
+        rw (n, lt-ltb x (2 ^ suc (suc j)) (omega (arith, q)), le-leb (2 ^ suc j) x (omega arith), le-leb (2 ^ j) (x - 2 ^ suc j) (omega (arith, p)))
+        (sym (le-leb (length (bitsOf j (x - 2 ^ suc j - 2 ^ j))) 11 (omega (arith, length-bits j (x - 2 ^ suc j - 2 ^ j)))))
+    go (no a) (no b) (no c) =
+        let n : (x / 2 ^ j < 4 → ⊥) = λ l. c (div-lt-iff-lt-mul z .0 l) in
+        rw (ne-eqb (x / 2 ^ j) 3 (λ e. n (omega arith)), le-ltb x (2 ^ suc (suc j)) (omega (arith, q)))
+
+pub begins-more : (k x : ℕ) → k ≤ 13 → k ≢ 0 → k ≢ 1 → eqb (x / 2 ^ (k - 2)) 3 ≡ (leb k 13 && ltb x (2 ^ k) && begins (bitsOf k x))
+begins-more k x h h0 h1 =
+    let e : k ≡ suc (suc (k - 2)) = omega arith in
+    rw (le-leb k 13 h) (begins-two (k - 2) x (omega arith) ∙ ap (λ (n : ℕ). ltb x (2 ^ n) && begins (bitsOf n x)) (sym e))
+
+-- a refusal
+module _ (nr p : ℕ) where
+  abbrev fitRefusal : Bool
+  fitRefusal = ((eqb nr 1 || eqb nr 3) && eqb p 0) || (leb 11 nr && leb nr 18)
+
+  pub refusal-first : nr ≡ 1 → eqb p 0 ≡ fitRefusal
+  refusal-first e = rw (e, or-no)
+
+  pub refusal-third : nr ≡ 3 → eqb p 0 ≡ fitRefusal
+  refusal-third e = rw (e, or-no)
+
+  pub refusal-low : nr ≢ 1 → nr ≢ 3 → nr < 11 → false ≡ fitRefusal
+  refusal-low a b h = rw (ne-eqb nr 1 a, ne-eqb nr 3 b, lt-leb 11 nr h)
+
+  pub refusal-high : nr ≢ 1 → nr ≢ 3 → 11 ≤ nr → leb nr 18 ≡ fitRefusal
+  refusal-high a b h = rw (ne-eqb nr 1 a, ne-eqb nr 3 b, le-leb 11 nr h)
+
+-- a header session
+module _ (s : Session) where
+  pub only-dim : s .dim ≢ 0 → false ≡ onlyBits s
+  unfolding onlyBits
+  only-dim h = rw (ne-eqb (s .dim) 0 h)
+
+  module _ (hd : s .dim ≡ 0) where
+    pub only-darts : s .darts ≢ 0 → false ≡ onlyBits s
+    unfolding onlyBits
+    only-darts h = rw (eq-eqb (s .dim) 0 hd, ne-eqb (s .darts) 0 h)
+
+    module _ (hn : s .darts ≡ 0) where
+      pub only-count : s .count ≢ 0 → false ≡ onlyBits s
+      unfolding onlyBits
+      only-count h = rw (eq-eqb (s .dim) 0 hd, eq-eqb (s .darts) 0 hn, ne-eqb (s .count) 0 h)
+
+      pub only-positions : s .count ≡ 0 → (r : Bool) → r ≡ allBelow 7 (isAt (s .positions) 0) → r ≡ onlyBits s
+      unfolding onlyBits isAt
+      only-positions h r e = rw (eq-eqb (s .dim) 0 hd, eq-eqb (s .darts) 0 hn, eq-eqb (s .count) 0 h) e
+
+  abbrev fitHeader : Bool
+  fitHeader = (eqb (s .waiting) 0 || eqb (s .waiting) 8) && valueFits s && onlyBits s
+
+  pub header-some : s .waiting ≡ 0 → s .value ≢ 0 → false ≡ fitHeader
+  unfolding valueFits
+  header-some e h = rw (e, le-ltb (s .value) 1 (omega arith))
+
+  pub header-none : s .waiting ≡ 0 → s .value ≡ 0 → (r : Bool) → r ≡ onlyBits s → r ≡ fitHeader
+  unfolding valueFits onlyBits
+  header-none e h r q = rw (e, lt-ltb (s .value) 1 (omega arith)) q
+
+  module _ (h0 : s .waiting ≢ 0) where
+    pub header-other : s .waiting ≢ 8 → false ≡ fitHeader
+    header-other h = rw (ne-eqb (s .waiting) 0 h0, ne-eqb (s .waiting) 8 h)
+
+    pub header-large : s .waiting ≡ 8 → 255 < s .value → false ≡ fitHeader
+    unfolding valueFits
+    header-large e h = rw (e, le-ltb (s .value) 256 (omega arith))
+
+    pub header-byte : s .waiting ≡ 8 → s .value ≤ 255 → (r : Bool) → r ≡ onlyBits s → r ≡ fitHeader
+    unfolding valueFits onlyBits
+    header-byte e h r q = rw (e, lt-ltb (s .value) 256 (omega arith)) q
+
+  -- a complete one
+  pub done-count : s .count ≢ s .darts → false ≡ allDone s
+  unfolding allDone
+  done-count h = rw (ne-eqb (s .count) (s .darts) h)
+
+  module _ (hc : s .count ≡ s .darts) where
+    pub done-waiting : s .waiting ≢ 0 → false ≡ allDone s
+    unfolding allDone
+    done-waiting h = rw (eq-eqb (s .count) (s .darts) hc, ne-eqb (s .waiting) 0 h, and-no)
+
+    module _ (hw : s .waiting ≡ 0) where
+      pub done-value : s .value ≢ 0 → false ≡ allDone s
+      unfolding allDone
+      done-value h = rw (ne-eqb (s .value) 0 h, and-no)
+
+      pub done-positions : s .value ≡ 0 → (r : Bool) → r ≡ allBelow (s .dim + 1) (isAt (s .positions) (s .darts)) → r ≡ allDone s
+      unfolding allDone isAt
+      done-positions h r e = rw (eq-eqb (s .count) (s .darts) hc, eq-eqb (s .waiting) 0 hw, eq-eqb (s .value) 0 h) (e ∙ (ap (λ (k : ℕ). allBelow k (isAt (s .positions) (s .darts))) (add-one (s .dim)) ∙ sym (and-yes _ ∙ and-yes _)))
+
+-- so few entries that their number fits
+pub few-entries : (N n : ℕ) → N ≤ 6 → n ≤ 4096 → (N + 1) * n < 18446744073709551616
+few-entries N n h k = let a : N + 1 ≤ 7 = omega arith in let l : (N + 1) * n ≤ 7 * 4096 = mul-le-mul a k in omega arith
+
+-- what running and complete share, one test after another
+module _ (s : Session) (t : List ℕ) where
+  pub walk-low : s .dim < 1 → false ≡ walkFits s t
+  unfolding walkFits dimFits
+  walk-low h = rw (lt-leb 1 (s .dim) h)
+
+  module _ (h1 : 1 ≤ s .dim) where
+    pub walk-high : 6 < s .dim → false ≡ walkFits s t
+    unfolding walkFits dimFits
+    walk-high h = rw (le-leb 1 (s .dim) h1, lt-leb (s .dim) 6 h)
+
+    module _ (h2 : s .dim ≤ 6) where
+      pub walk-none : s .darts < 1 → false ≡ walkFits s t
+      unfolding walkFits dimFits dartsFit
+      walk-none h = rw (le-leb 1 (s .dim) h1, le-leb (s .dim) 6 h2, lt-leb 1 (s .darts) h)
+
+      module _ (h3 : 1 ≤ s .darts) where
+        pub walk-many : 4096 < s .darts → false ≡ walkFits s t
+        unfolding walkFits dimFits dartsFit
+        walk-many h = rw (le-leb 1 (s .dim) h1, le-leb (s .dim) 6 h2, le-leb 1 (s .darts) h3, lt-leb (s .darts) 4096 h)
+
+        module _ (h4 : s .darts ≤ 4096) where
+          sized : (dimFits (s .dim) && dartsFit (s .darts)) ≡ true
+          unfolding dimFits dartsFit
+          sized = rw (le-leb 1 (s .dim) h1, le-leb (s .dim) 6 h2, le-leb 1 (s .darts) h3, le-leb (s .darts) 4096 h4)
+
+          pub walk-short : length t < (s .dim + 1) * s .darts → false ≡ walkFits s t
+          unfolding walkFits
+          walk-short h = rw (sized, lt-leb (size (s .dim) (s .darts)) (length t) (omega arith))
+
+          module _ (h5 : (s .dim + 1) * s .darts ≤ length t) where
+            room : leb (size (s .dim) (s .darts)) (length t) ≡ true
+            room = le-leb (size (s .dim) (s .darts)) (length t) (omega arith)
+
+            pub walk-empty : s .count < 1 → false ≡ walkFits s t
+            unfolding walkFits
+            walk-empty h = rw (sized, room, lt-leb 1 (s .count) h)
+
+            module _ (h6 : 1 ≤ s .count) where
+              pub walk-over : s .darts < s .count → false ≡ walkFits s t
+              unfolding walkFits
+              walk-over h = rw (sized, room, le-leb 1 (s .count) h6, lt-leb (s .count) (s .darts) h)
+
+              module _ (h7 : s .count ≤ s .darts) (f : Bool) (ef : f ≡ allBelow (suc (s .dim)) (fallsAt (s .count) (s .positions))) where
+                counted : (dimFits (s .dim) && dartsFit (s .darts) && leb (size (s .dim) (s .darts)) (length t) && leb 1 (s .count) && leb (s .count) (s .darts)) ≡ true
+                counted = rw (sized, room, le-leb 1 (s .count) h6, le-leb (s .count) (s .darts) h7)
+
+                pub walk-rising : not f ≡ true → false ≡ walkFits s t
+                unfolding walkFits positionsFit fallsAt
+                walk-rising h = rw (counted, ← ef, not-true f h)
+
+                module _ (hf : not f ≡ false) (p : Bool) (ep : p ≡ allBelow 7 (overAt (s .dim) (s .positions))) where
+                  pub walk-past : not p ≡ true → false ≡ walkFits s t
+                  unfolding walkFits positionsFit fallsAt overAt
+                  walk-past h = rw (counted, ← ef, not-false f hf, ← ep, not-true p h)
+
+                  pub walk-entries : not p ≡ false → (r : Bool) → r ≡ allBelow (size (s .dim) (s .darts)) (entryAt (s .dim) (s .darts) t (s .count) (s .positions)) → r ≡ walkFits s t
+                  unfolding walkFits positionsFit entriesFit entryFits fallsAt overAt entryAt entryBy
+                  walk-entries h r e = rw (counted, ← ef, not-false f hf, ← ep, not-false p h) e
+
+  -- what it says of the limits
+  fits-limits : walkFits s t ≡ true → Limits (s .dim) (s .darts) t
+  unfolding walkFits dimFits dartsFit
+  fits-limits e =
+      let a = dimFits (s .dim) in
+      let b = dartsFit (s .darts) in
+      let c = leb (size (s .dim) (s .darts)) (length t) in
+      let all = and-left (a && b && c) (leb 1 (s .count)) (and-left (a && b && c && leb 1 (s .count)) (leb (s .count) (s .darts)) (and-left (a && b && c && leb 1 (s .count) && leb (s .count) (s .darts)) (positionsFit s) (and-left _ (entriesFit s t) e))) in
+      let d = and-left a b (and-left (a && b) c all) in
+      let n = and-right a b (and-left (a && b) c all) in
+      record {
+        dims = (leb-true 1 (s .dim) (and-left (leb 1 (s .dim)) (leb (s .dim) 6) d), leb-true (s .dim) 6 (and-right (leb 1 (s .dim)) (leb (s .dim) 6) d));
+        darts = (leb-true 1 (s .darts) (and-left (leb 1 (s .darts)) (leb (s .darts) 4096) n), leb-true (s .darts) 4096 (and-right (leb 1 (s .darts)) (leb (s .darts) 4096) n));
+        room = leb-true (size (s .dim) (s .darts)) (length t) (and-right (a && b) c all);
+      }
+
+  -- running and complete, w being what `walk_fits` answered
+  module _ (w : Bool) (e : w ≡ walkFits s t) where
+    pub running-unfit : not w ≡ true → false ≡ fitAs Running s t
+    unfolding fitAs
+    running-unfit h = rw (← e, not-true w h)
+
+    pub complete-unfit : not w ≡ true → false ≡ fitAs Complete s t
+    unfolding fitAs
+    complete-unfit h = rw (← e, not-true w h)
+
+    module _ (hw : not w ≡ false) where
+      pub limits-of : Limits (s .dim) (s .darts) t
+      limits-of = fits-limits (sym e ∙ not-false w hw)
+
+      pub complete-fit : (r : Bool) → r ≡ allDone s → r ≡ fitAs Complete s t
+      unfolding fitAs
+      complete-fit r q = rw (← e, not-false w hw) q
+
+      module _ (x : Stand) (ex : (x .count ≡ s .count) × (x .positions ≡ s .positions)) (a : Bool) (ea : a ≡ asksAt (s .dim) (s .darts) t (x .count) (x .positions)) where
+        asking : asks (walkOf s t) (head (walkOf s t)) ≡ a
+        unfolding walkOf asksAt standing
+        asking = sym (rw (ex .0, ex .1) at ea)
+
+        pub running-still : not a ≡ true → false ≡ fitAs Running s t
+        unfolding fitAs
+        running-still h = rw (← e, not-false w hw, asking, not-true a h)
+
+        pub running-begun : not a ≡ false → (r : Bool) → r ≡ (leb (s .waiting) 13 && ltb (s .value) (2 ^ s .waiting) && begins (bitsOf (s .waiting) (s .value))) → r ≡ fitAs Running s t
+        unfolding fitAs valueFits waitingOf
+        running-begun h r q = rw (← e, not-false w hw, asking, not-false a h) q
+
+  -- the state's own case
+  fit-as : (st : State) → s .state ≡ st → fitAs st s t ≡ fit s t
+  unfolding fit
+  fit-as st e = ap (λ (x : State). fitAs x s t) (sym e)
+
+  pub fit-header : s .state ≡ Header → (r : Bool) → r ≡ fitHeader s → r ≡ fit s t
+  unfolding fitAs
+  fit-header e r q = q ∙ fit-as Header e
+
+  pub fit-running : s .state ≡ Running → (r : Bool) → r ≡ fitAs Running s t → r ≡ fit s t
+  fit-running e r q = q ∙ fit-as Running e
+
+  pub fit-complete : s .state ≡ Complete → (r : Bool) → r ≡ fitAs Complete s t → r ≡ fit s t
+  fit-complete e r q = q ∙ fit-as Complete e
+
+  pub fit-closed : s .state ≡ Closed → true ≡ fit s t
+  unfolding fitAs
+  fit-closed e = fit-as Closed e
+
+  pub fit-refused : (nr p : ℕ) → s .state ≡ Refused nr p → (r : Bool) → r ≡ fitRefusal nr p → r ≡ fit s t
+  unfolding fitAs
+  fit-refused nr p e r q = q ∙ fit-as (Refused nr p) e

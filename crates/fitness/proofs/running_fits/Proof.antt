@@ -1,0 +1,35 @@
+-- `fitness::running_fits` meets its contract: the walk fits, its next step needs a symbol, and the bits begin one. Assumes nothing.
+use borrow.Author.Needs.{needs}
+use Rattle.fitness.proofs.Laws.{running-unfit, running-still, running-begun, limits-of}
+use Rattle.fitness.proofs.running_fits.Statement.{statement}
+use Rattle.fitness.proofs.running_fits.Tie as tie
+
+walk-fits-requires : tie.Need-walk-fits-requires
+walk-fits-requires c κs = search needs
+
+returns : tie.Need-returns
+returns c = running-unfit _ _ _ (c .before .walk-fits .ensures) (c .if1 .taken)
+
+cast-asks : tie.Need-cast-asks
+cast-asks c = search needs
+
+cast-asks-2 : tie.Need-cast-asks-2
+cast-asks-2 c = search needs
+
+stand-of-requires : tie.Need-stand-of-requires
+stand-of-requires c κs = search needs
+
+asks-requires : tie.Need-asks-requires
+asks-requires c κs = limits-of _ _ _ (c .before .before .before .before .walk-fits .ensures) (c .before .before .before .if1 .left)
+
+returns-2 : tie.Need-returns-2
+returns-2 c = running-still _ _ _ (c .before .before .before .before .before .before .walk-fits .ensures) (c .before .before .before .before .before .if1 .left) _ (c .before .before .stand-of .ensures) _ (c .before .asks .ensures) (c .if2 .taken)
+
+begins-requires : tie.Need-begins-requires
+begins-requires c κs = search needs
+
+returns-3 : tie.Need-returns-3
+returns-3 c = running-begun _ _ _ (c .before .before .before .before .before .before .before .walk-fits .ensures) (c .before .before .before .before .before .before .if1 .left) _ (c .before .before .before .stand-of .ensures) _ (c .before .before .asks .ensures) (c .before .if2 .left) _ (c .begins .ensures)
+
+pub running-fits-spec : {M : Type 1} → statement M
+running-fits-spec = tie.close (tie.spec walk-fits-requires returns cast-asks cast-asks-2 stand-of-requires asks-requires returns-2 begins-requires returns-3)

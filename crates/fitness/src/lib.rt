@@ -1,0 +1,293 @@
+// Fitness of a session, as document 01 lists it: any record, any tables.
+use rules::Session;
+use rules::State;
+use rules::WalkNo;
+use steps::Case;
+use steps::Stand;
+ghost use mathlib.Core.Path.{_≡_};
+ghost use mathlib.Core.Bool.{_&&_, _||_};
+ghost use Prim.Native.Nat.{suc, _≤_, _^_};
+ghost use lib.Dec.{eqb, ltb, leb};
+ghost use Rattle.rules.specs.Lists.{allBelow};
+ghost use Rattle.rules.specs.Map.{Limits, size};
+ghost use Rattle.rules.specs.Stream.{bitsOf};
+ghost use Rattle.rules.specs.Session.{valueFits, onlyBits, walkFits, allDone, fitAs};
+ghost use Rattle.rules.specs.declared.State.the-variants.{Running, Complete};
+ghost use Rattle.fitness.specs.Parts.{fallsAt, isAt, overAt, entryBy, entryAt, asksAt};
+
+// The walk that a record stands for.
+pub fn stand_of(s: Session) -> Stand
+    ensures { λ r. ⌜ (r .count ≡ s .count) × (r .positions ≡ s .positions) ⌝ }
+{
+    let positions = s.positions;
+    Stand {
+        count: s.count,
+        positions,
+    }
+}
+
+// The first positions are all x.
+pub fn positions_are(k: usize, x: u16, positions: [u16; 7]) -> bool
+    requires { ⌜ k ≤ 7 ⌝ }
+    ensures { λ r. ⌜ r ≡ allBelow k (isAt positions x) ⌝ }
+{
+    let mut i = 0;
+    while i < k {
+        if positions[i] != x {
+            return false;
+        }
+        i += 1;
+    }
+    true
+}
+
+// Every number but the bits is 0.
+pub fn only_bits(s: Session) -> bool
+    ensures { λ r. ⌜ r ≡ onlyBits s ⌝ }
+{
+    if s.dim != 0 {
+        return false;
+    }
+    if s.darts != 0 {
+        return false;
+    }
+    if s.count != 0 {
+        return false;
+    }
+    let positions = s.positions;
+    positions_are(7, 0, positions)
+}
+
+// Positions fall or stay equal by rank, and none is above count.
+pub fn positions_fall(dim: usize, count: u16, positions: [u16; 7]) -> bool
+    requires { ⌜ dim ≤ 6 ⌝ }
+    ensures { λ r. ⌜ r ≡ allBelow (suc dim) (fallsAt count positions) ⌝ }
+{
+    let mut above = count;
+    let mut i = 0;
+    while i <= dim {
+        if above < positions[i] {
+            return false;
+        }
+        above = positions[i];
+        i += 1;
+    }
+    true
+}
+
+// Positions past N are 0.
+pub fn positions_past(dim: usize, positions: [u16; 7]) -> bool
+    requires { ⌜ dim ≤ 6 ⌝ }
+    ensures { λ r. ⌜ r ≡ allBelow 7 (overAt dim positions) ⌝ }
+{
+    let mut i = dim + 1;
+    while i < 7 {
+        if positions[i] != 0 {
+            return false;
+        }
+        i += 1;
+    }
+    true
+}
+
+// An entry x of a dart d at a rank whose position is p.
+pub fn entry_fits(count: u16, p: u16, d: u16, x: u16) -> bool
+    ensures { λ r. ⌜ r ≡ entryBy count p d x ⌝ }
+{
+    if count <= d {
+        return x == Session::NO_LINK;
+    }
+    if x == Session::NO_LINK {
+        return p <= d;
+    }
+    x < count
+}
+
+// Every entry, by rank, then dart.
+pub fn entries_fit(
+    tables: &[u16],
+    dim: usize,
+    darts: usize,
+    count: u16,
+    positions: [u16; 7],
+) -> bool
+    requires { ⌜ Limits dim darts (now tables) ⌝ }
+    ensures { λ r. ⌜ r ≡ allBelow (size dim darts) (entryAt dim darts (now (tables .entry)) count positions) ⌝ }
+{
+    let size = (dim + 1) * darts;
+    let mut k = 0;
+    while k < size {
+        let rank = k / darts;
+        let d = (k % darts) as u16;
+        let x = tables::link(tables, dim, darts, rank, d);
+        if !entry_fits(count, positions[rank], d, x) {
+            return false;
+        }
+        k += 1;
+    }
+    true
+}
+
+// What running and complete share.
+pub fn walk_fits(s: Session, tables: &[u16]) -> bool
+    ensures { λ r. ⌜ r ≡ walkFits s (now (tables .entry)) ⌝ }
+{
+    let dim = s.dim as usize;
+    let darts = s.darts as usize;
+    let count = s.count;
+    let positions = s.positions;
+    if dim < 1 {
+        return false;
+    }
+    if 6 < dim {
+        return false;
+    }
+    if darts < 1 {
+        return false;
+    }
+    if 4096 < darts {
+        return false;
+    }
+    if tables.len() < (dim + 1) * darts {
+        return false;
+    }
+    if count < 1 {
+        return false;
+    }
+    if darts < count as usize {
+        return false;
+    }
+    if !positions_fall(dim, count, positions) {
+        return false;
+    }
+    if !positions_past(dim, positions) {
+        return false;
+    }
+    entries_fit(tables, dim, darts, count, positions)
+}
+
+// A queue isn't empty, and the next step needs a symbol.
+pub fn asks(dim: usize, darts: usize, stand: Stand, tables: &[u16]) -> bool
+    requires { ⌜ Limits dim darts (now tables) ⌝ }
+    ensures { λ r. ⌜ r ≡ asksAt dim darts (now (tables .entry)) (stand .count) (stand .positions) ⌝ }
+{
+    let count = stand.count;
+    let positions = stand.positions;
+    let j = walk::lowest(dim, count, positions);
+    if dim < j {
+        return false;
+    }
+    match steps::partner(tables, dim, darts, j, WalkNo(positions[j])) {
+        Case::Known => false,
+        Case::Deduced(_) => false,
+        Case::Asked => true,
+    }
+}
+
+// None, or 1, or 11 and up to eleven more: bits that begin a symbol and don't finish it.
+pub fn begins(bits: u16, value: u16) -> bool
+    ensures { λ r. ⌜ r ≡ (leb bits 13 && ltb value (2 ^ bits) && Rattle.rules.specs.Session.begins (bitsOf bits value)) ⌝ }
+{
+    if 13 < bits {
+        return false;
+    }
+    if bits == 0 {
+        return value == 0;
+    }
+    if bits == 1 {
+        return value == 1;
+    }
+    value >> (bits - 2) == 3
+}
+
+// Count and positions 0..N equal to n, and no bits.
+pub fn all_done(s: Session) -> bool
+    requires { ⌜ s .dim ≤ 6 ⌝ }
+    ensures { λ r. ⌜ r ≡ allDone s ⌝ }
+{
+    let dim = s.dim as usize;
+    let darts = s.darts;
+    let positions = s.positions;
+    if s.count != darts {
+        return false;
+    }
+    if s.waiting != 0 {
+        return false;
+    }
+    if s.value != 0 {
+        return false;
+    }
+    positions_are(dim + 1, darts, positions)
+}
+
+// Is a header session fit?
+pub fn header_fits(s: Session) -> bool
+    ensures { λ r. ⌜ r ≡ ((eqb (s .waiting) 0 || eqb (s .waiting) 8) && valueFits s && onlyBits s) ⌝ }
+{
+    if s.waiting == 0 {
+        if s.value != 0 {
+            return false;
+        }
+        return only_bits(s);
+    }
+    if s.waiting != 8 {
+        return false;
+    }
+    if 255 < s.value {
+        return false;
+    }
+    only_bits(s)
+}
+
+// Is a running session fit?
+pub fn running_fits(s: Session, tables: &[u16]) -> bool
+    ensures { λ r. ⌜ r ≡ fitAs Running s (now (tables .entry)) ⌝ }
+{
+    if !walk_fits(s, tables) {
+        return false;
+    }
+    if !asks(s.dim as usize, s.darts as usize, stand_of(s), tables) {
+        return false;
+    }
+    begins(s.waiting, s.value)
+}
+
+// Is a complete session fit?
+pub fn complete_fits(s: Session, tables: &[u16]) -> bool
+    ensures { λ r. ⌜ r ≡ fitAs Complete s (now (tables .entry)) ⌝ }
+{
+    if !walk_fits(s, tables) {
+        return false;
+    }
+    all_done(s)
+}
+
+// Is a refused session fit?
+pub fn refusal_fits(number: u32, place: u32) -> bool
+    ensures { λ r. ⌜ r ≡ (((eqb number 1 || eqb number 3) && eqb place 0) || (leb 11 number && leb number 18)) ⌝ }
+{
+    if number == 1 {
+        return place == 0;
+    }
+    if number == 3 {
+        return place == 0;
+    }
+    if number < 11 {
+        return false;
+    }
+    number <= 18
+}
+
+// Is a session fit, with the tables lent?
+pub fn fit(s: Session, tables: &[u16]) -> bool
+    ensures { λ r. ⌜ r ≡ Rattle.rules.specs.Session.fit s (now (tables .entry)) ⌝ }
+{
+    let state = s.state;
+    match state {
+        State::Header => header_fits(s),
+        State::Running => running_fits(s, tables),
+        State::Complete => complete_fits(s, tables),
+        State::Closed => true,
+        State::Refused(number, place) => refusal_fits(number, place),
+    }
+}

@@ -1,0 +1,93 @@
+// Bits out: a pen gathers bits into bytes, most significant first, and stores only the bytes that fall into a page of the stream.
+use walk::Output;
+ghost use mathlib.Core.Path.{_≡_};
+ghost use mathlib.Core.Bool.{Bool};
+ghost use mathlib.Core.List.{List, [], _∷_};
+ghost use Prim.Native.Nat.{ℕ, _≤_, _<_, _^_};
+ghost use lib.Dec.{eqb};
+ghost use Rattle.rules.specs.Stream.{bitsOf, codes, filled};
+ghost use Rattle.walk.proofs.Laws.{symbolsFor};
+ghost use Rattle.pen.specs.Pens.{stored, penned, PenFits, Holds, Put, IndexFits};
+
+// Where writing stands: the number of whole bytes so far, and the bits gathered for the next one.
+pub struct Pen {
+    pub at: usize,
+    pub bits: u16,
+    pub value: u16,
+}
+
+// A whole byte of the stream: it is stored if the page, which begins at start, has a place for it.
+pub fn store(start: usize, at: usize, byte: u8, out: &mut [u8])
+    ensures { λ r. ⌜ now (out .exit) ≡ stored start at byte (now (out .entry)) ⌝ }
+{
+    if at < start {
+        return;
+    }
+    let i = at - start;
+    if i < out.len() {
+        out[i] = byte;
+    }
+}
+
+// One bit more.
+pub fn put_bit(pen: Pen, bit: u16, start: usize, out: &mut [u8]) -> Pen
+    requires { ⌜ PenFits 1 pen × (bit < 2) ⌝ }
+    ensures { λ r. ⌜ Put (eqb bit 1 ∷ []) start pen r (now (out .entry)) (now (out .exit)) ⌝ }
+{
+    let at = pen.at;
+    let value = 2 * pen.value + bit;
+    if pen.bits < 7 {
+        return Pen {
+            at,
+            bits: pen.bits + 1,
+            value,
+        };
+    }
+    store(start, at, value as u8, out);
+    Pen {
+        at: at + 1,
+        bits: 0,
+        value: 0,
+    }
+}
+
+// A number in k bits.
+pub fn put_number(pen: Pen, v: u16, k: u16, start: usize, out: &mut [u8]) -> Pen
+    requires { ⌜ PenFits k pen × (k ≤ 12) × (v < 2 ^ k) ⌝ }
+    ensures { λ r. ⌜ Put (bitsOf k v) start pen r (now (out .entry)) (now (out .exit)) ⌝ }
+{
+    let mut p = pen;
+    let mut left = k;
+    while 0 < left {
+        left -= 1;
+        p = put_bit(p, (v >> left) % 2, start, out);
+    }
+    p
+}
+
+// What a step writes: N is 0, B is 10, w is 11 and twelve bits.
+pub fn put_symbol(pen: Pen, s: Output, start: usize, out: &mut [u8]) -> Pen
+    requires { ⌜ PenFits 14 pen × IndexFits s ⌝ }
+    ensures { λ r. ⌜ Put (codes (symbolsFor s)) start pen r (now (out .entry)) (now (out .exit)) ⌝ }
+{
+    match s {
+        Output::Nothing => pen,
+        Output::New(_) => put_bit(pen, 0, start, out),
+        Output::Border => put_number(pen, 2, 2, start, out),
+        Output::Index(e) => {
+            let p = put_number(pen, 3, 2, start, out);
+            put_number(p, e.0, 12, start, out)
+        }
+    }
+}
+
+// Zero bits fill the last byte.
+pub fn fill(pen: Pen, start: usize, out: &mut [u8])
+    requires { ⌜ PenFits 0 pen ⌝ }
+    ensures { λ r. ⌜ ((bs : List Bool) (out0 : List ℕ) → Holds bs start out0 pen (now (out .entry)) → now (out .exit) ≡ penned (filled bs) start out0) ⌝ }
+{
+    if 0 < pen.bits {
+        let left = 8 - pen.bits;
+        store(start, pen.at, (pen.value << left) as u8, out);
+    }
+}

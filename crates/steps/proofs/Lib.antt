@@ -1,0 +1,4 @@
+pub mod Partners
+pub mod Heads
+pub mod Turns
+pub mod Runs

@@ -1,0 +1,299 @@
+-- Laws of a step: the walk of the stand and tables that a step leaves is the walk that the rules' step leaves, one way through the code at a time.
+use Prim.Native.Nat.{ℕ, suc, _+_, _≤_, _<_}
+use mathlib.Core.Path.{_≡_, refl, ap, sym, _∙_}
+use mathlib.Core.Logic.{_≢_, _⊎_, inl, inr}
+use mathlib.Core.Bool.{Bool, true, false, not, _&&_}
+use mathlib.Core.List.{List, [], _∷_}
+use native.Mathlib.Omega.{arith}
+use lib.ListN.{length, getD, set, replicate}
+use lib.Dec.{eqb, ltb}
+use borrow.Author.Tests.{ltb-true, lt-ltb, le-ltb, eq-eqb, ne-eqb}
+use Rattle.rules.specs.Map.{mark, size, place, link, blank, Limits}
+use Rattle.rules.specs.Walk.{Walk, start, Head, head, linkOf, unknown, Partner, partner, pass, join, fresh, tie, Symbol, apply}
+use Rattle.rules.specs.Stream.{bitsOf}
+use Rattle.rules.specs.Stream as stream
+use Rattle.rules.specs.Reading.{Step, permitted, fault, allow, stepTaken, stepWith, stepAt, step}
+use Rattle.rules.specs.Session.{begins, queuesOf, walkOf}
+use Rattle.rules.specs.declared.Session.{Session}
+use Rattle.rules.specs.declared.WalkNo.{WalkNo}
+use Rattle.rules.proofs.Lists.{and-left}
+use Rattle.rules.proofs.Places.{place-below}
+use Rattle.rules.proofs.Positions.{gone, Shape, bound-le-count, turn}
+use Rattle.rules.proofs.Walks.{Inv, start-inv, next-of, deduced-below}
+use Rattle.rules.proofs.Moves.{Move, moved, see-deduced, step-move}
+use Rattle.rules.proofs.Readings.{Asks}
+use Rattle.rules.proofs.Fitness.{queues-of}
+use Rattle.symbols.specs.declared.Cursor.{Cursor}
+use Rattle.symbols.specs.declared.Taken.{Taken}
+use Rattle.symbols.specs.declared.Taken.the-variants as taken
+use Rattle.symbols.specs.Cursors.{atHand, CursorFits, told, PastCode, PastSymbol, SymbolTaken}
+use Rattle.walk.specs.Numbers.{lowestFrom}
+use Rattle.steps.specs.declared.Stand.{Stand}
+use Rattle.steps.specs.declared.Turned.{Turned}
+use Rattle.steps.specs.declared.Signal.{Signal}
+use Rattle.steps.specs.declared.Signal.the-variants.{More, Ended, Waits, Refused}
+use Rattle.steps.specs.declared.Case.{Case}
+use Rattle.steps.specs.declared.Case.the-variants.{Known, Deduced, Asked}
+use Rattle.steps.specs.Partners.{looking, toldPartner}
+use Rattle.steps.specs.Turns.{walkAt, signalStep, toldStep, tablesJoined, mayName, standPassed, standCounted, Tied, Ready, Served, Taking, Turns}
+use Rattle.steps.proofs.Partners.{partner-looking}
+use Rattle.steps.proofs.Heads.{lowest-head}
+
+-- a link's place is within the tables
+pub place-room : (N n : ℕ) (t : List ℕ) (j b : ℕ) → Limits N n t → j ≤ N → b < n → (p : ℕ) → p ≡ place N n j b → p < length t
+place-room N n t j b l hj hb p e = omega (arith, place-below N n j b hj hb, l .room)
+
+pub turned-more : (x y : Stand) (c : Cursor) → x ≡ y → _≡_ {A = Turned} (record { stand = x; cursor = c; signal = More }) (record { stand = y; cursor = c; signal = More })
+turned-more x y c e = ap (λ (s : Stand). record { stand = s; cursor = c; signal = More }) e
+
+-- the walk of a stand and tables
+pub stands : (N n : ℕ) (s : Stand) (t : List ℕ) (w : Walk) → Shape w → w .dim ≡ N → w .darts ≡ n → w .count ≡ s .count → w .positions ≡ s .positions → w .links ≡ t → walkAt N n s t ≡ w
+unfolding walkAt
+stands N n s t w h ed en ec ep et = λ i. record { dim = sym ed i; darts = sym en i; queues = q i; links = sym et i; count = sym ec i; positions = sym ep i }
+  where
+    q : queuesOf (suc N) (s .count) (s .positions) ≡ w .queues
+    q = sym (queues-of w h ∙ rw (ed, ec, ep))
+
+-- the walk of a session's record, and of the start
+pub walk-session : (s : Session) (t : List ℕ) → walkOf s t ≡ walkAt (s .dim) (s .darts) (record { count = s .count; positions = s .positions }) t
+unfolding walkOf walkAt
+walk-session s t = refl
+
+pub walk-start : (N n : ℕ) (t : List ℕ) → 1 ≤ n → n ≤ 4096 → N ≤ 6 → walkAt N n (record { count = 1; positions = replicate 7 0 }) (blank (size N n) t) ≡ start N n t
+unfolding start
+walk-start N n t h1 h2 h3 = stands N n (record { count = 1; positions = replicate 7 0 }) (blank (size N n) t) (start N n t) (start-inv N n t h1 h2 h3 .shape) refl refl refl refl refl
+
+pub ready-start : (N n : ℕ) (c : Cursor) (t page : List ℕ) → (1 ≤ N) × (N ≤ 6) → (1 ≤ n) × (n ≤ 4096) → CursorFits c page → c .waiting ≡ 0
+    → Ready N n (record { count = 1; positions = replicate 7 0 }) c (blank (size N n) t) page
+ready-start N n c t page hN hn f z = record { inv = rw (walk-start N n t (hn .0) (hn .1) (hN .1)) (start-inv N n t (hn .0) (hn .1) (hN .1)); dims = hN .0; fits = f; begun = inl z }
+
+-- a move's walk is that of the stand and tables after it
+lands : (N n : ℕ) (s s' : Stand) (t t' : List ℕ) (out : List Symbol) (w' : Walk) → Inv (walkAt N n s t) → Move (walkAt N n s t) out w' → w' .count ≡ s' .count → w' .positions ≡ s' .positions → w' .links ≡ t' → walkAt N n s' t' ≡ w'
+unfolding walkAt
+lands N n s s' t t' out w' v m ec ep et = let x = moved (walkAt N n s t) w' out v m in stands N n s' t' w' (x .inv .shape) (x .grows .dim) (x .grows .darts) ec ep et
+
+set-one : (l : List ℕ) (j : ℕ) → set l j (suc (getD l j 0)) ≡ set l j (getD l j 0 + 1)
+set-one l j = let e : getD l j 0 + 1 ≡ suc (getD l j 0) = omega arith in rw e
+
+module _ (N n : ℕ) (s : Stand) (t : List ℕ) (v : Inv (walkAt N n s t)) (j b : ℕ) where
+  walk-passed : Move (walkAt N n s t) [] (pass (walkAt N n s t) j b) → walkAt N n (standPassed s j) t ≡ pass (walkAt N n s t) j b
+  unfolding pass walkAt
+  walk-passed m = lands N n s (standPassed s j) t t [] (pass (walkAt N n s t) j b) v m refl (set-one (s .positions) j) refl
+
+  walk-tied : (out : List Symbol) (e : ℕ) → Move (walkAt N n s t) out (tie (walkAt N n s t) j b e) → walkAt N n (standPassed s j) (tablesJoined N n t j b e) ≡ tie (walkAt N n s t) j b e
+  unfolding tie pass join walkAt
+  walk-tied out e m = lands N n s (standPassed s j) t (tablesJoined N n t j b e) out (tie (walkAt N n s t) j b e) v m refl (set-one (s .positions) j) refl
+
+  walk-new : (out : List Symbol) → Move (walkAt N n s t) out (apply (walkAt N n s t) j b Symbol.new)
+      → walkAt N n (standPassed (standCounted s) j) (tablesJoined N n t j b (s .count)) ≡ apply (walkAt N n s t) j b Symbol.new
+  unfolding apply tie pass join fresh walkAt
+  walk-new out m =
+      lands N n s (standPassed (standCounted s) j) t (tablesJoined N n t j b (s .count)) out (apply (walkAt N n s t) j b Symbol.new) v m (omega arith) (set-one (s .positions) j) refl
+
+-- signals by number
+abbrev pub signalNo : Signal → ℕ
+signalNo More = 0
+signalNo Ended = 1
+signalNo Waits = 2
+signalNo (Refused nr) = 3
+
+pub apart : {A : Type 0} (x y : Signal) → signalNo x ≢ signalNo y → x ≡ y → A
+apart x y h e = absurd (h (ap signalNo e))
+
+-- a step with a symbol, one way through the code at a time
+module _ (N n : ℕ) (s : Stand) (c : Cursor) (t page : List ℕ) (j b : ℕ) (v : Served N n s t j b) (asked : partner (walkAt N n s t) j b ≡ Partner.asked) (f : CursorFits c page)
+    (k : Taken) (past : PastSymbol k c page) where
+  on : (x : Symbol) (d : Cursor) → told k page ≡ stream.Taken.symbol x (atHand d page) → PastCode c d page → permitted (walkAt N n s t) j b x ≡ true
+      → (s' : Stand) (t' : List ℕ) → walkAt N n s' t' ≡ apply (walkAt N n s t) j b x
+      → Taking N n s c t page j b k (record { stand = s'; cursor = d; signal = More }) t'
+  unfolding signalStep stepTaken allow
+  on x d e p h s' t' q = record { tells = rw (e, h, q); fits = p .fits; used = λ _. p .used; onward = λ z. apart More Ended (omega arith) z }
+
+  off : (x : Symbol) (rest : List Bool) → told k page ≡ stream.Taken.symbol x rest → permitted (walkAt N n s t) j b x ≡ false
+      → Taking N n s c t page j b k (record { stand = s; cursor = c; signal = Refused (fault x) }) t
+  unfolding signalStep stepTaken allow
+  off x rest e h = record { tells = rw (e, h); fits = f; used = λ z. apart (Refused (fault x)) More (omega arith) z; onward = λ z. apart (Refused (fault x)) Ended (omega arith) z }
+
+  pub taking-short : k ≡ taken.Short → Taking N n s c t page j b k (record { stand = s; cursor = c; signal = Waits }) t
+  unfolding signalStep stepTaken told
+  taking-short e = record { tells = rw e; fits = f; used = λ z. apart Waits More (omega arith) z; onward = λ z. apart Waits Ended (omega arith) z }
+
+  pub taking-border : (d : Cursor) → k ≡ taken.Border d → (r : Turned) (t' : List ℕ) → Tied N n s d t j b b r t' → Taking N n s c t page j b k r t'
+  unfolding told PastSymbol permitted apply
+  taking-border d e r t' x = rw (x .turned, x .tables)
+      (on Symbol.border d (rw e) (rw e at past) refl (standPassed s j) (tablesJoined N n t j b b)
+      (walk-tied N n s t (v .inv) j b (Symbol.border ∷ []) b (Move.reads j b Symbol.border (v .heads) asked refl)))
+
+  module _ (e : WalkNo) (d : Cursor) (ek : k ≡ taken.Index e d) (y : Bool) (ey : y ≡ mayName N n t (s .count) j b (e .0)) where
+    named : permitted (walkAt N n s t) j b (Symbol.index (e .0)) ≡ y
+    unfolding permitted unknown linkOf walkAt
+    named = sym ey
+
+    pub taking-index : y ≡ true → (r : Turned) (t' : List ℕ) → Tied N n s d t j b (e .0) r t' → Taking N n s c t page j b k r t'
+    unfolding told PastSymbol apply
+    taking-index q r t' x = rw (x .turned, x .tables)
+        (on (Symbol.index (e .0)) d (rw ek) (rw ek at past) (named ∙ q) (standPassed s j) (tablesJoined N n t j b (e .0))
+        (walk-tied N n s t (v .inv) j b (Symbol.index (e .0) ∷ []) (e .0) (Move.reads j b (Symbol.index (e .0)) (v .heads) asked (named ∙ q))))
+
+    pub taking-12 : y ≡ false → Taking N n s c t page j b k (record { stand = s; cursor = c; signal = Refused 12 }) t
+    unfolding told fault
+    taking-12 q = off (Symbol.index (e .0)) (atHand d page) (rw ek) (named ∙ q)
+
+  module _ (d : Cursor) (ek : k ≡ taken.New d) where
+    pub taking-new : s .count < n → (r : Turned) (t' : List ℕ) → Tied N n (standCounted s) d t j b (s .count) r t' → Taking N n s c t page j b k r t'
+    unfolding told PastSymbol permitted walkAt
+    taking-new q r t' x =
+        let p : permitted (walkAt N n s t) j b Symbol.new ≡ true = lt-ltb (s .count) n q in
+        rw (x .turned, x .tables)
+        (on Symbol.new d (rw ek) (rw ek at past) p (standPassed (standCounted s) j) (tablesJoined N n t j b (s .count))
+        (walk-new N n s t (v .inv) j b (Symbol.new ∷ []) (Move.reads j b Symbol.new (v .heads) asked p)))
+
+    pub taking-13 : n ≤ s .count → Taking N n s c t page j b k (record { stand = s; cursor = c; signal = Refused 13 }) t
+    unfolding told fault permitted walkAt
+    taking-13 q = off Symbol.new (atHand d page) (rw ek) (le-ltb (s .count) n q)
+
+-- a dart that may be named is numbered
+pub name-below : (N n : ℕ) (t : List ℕ) (count j b e : ℕ) (y : Bool) → y ≡ mayName N n t count j b e → y ≡ true → e < count
+name-below N n t count j b e y ey q =
+    let a = ltb e count && not (eqb e b) in
+    ltb-true e count (and-left (ltb e count) (not (eqb e b)) (and-left a (eqb (link N n t j e) mark) (sym ey ∙ q)))
+
+at-rank : {h : Head} {i d j b : ℕ} → h ≡ Head.at i d → h ≡ Head.at j b → i ≡ j
+at-rank e f = cc
+
+at-dart : {h : Head} {i d j b : ℕ} → h ≡ Head.at i d → h ≡ Head.at j b → d ≡ b
+at-dart e f = cc
+
+known-asked : Partner.known ≢ Partner.asked
+known-asked e = let z : _≡_ {A = ℕ} 0 1 = cc in omega arith
+
+deduced-asked : {e : ℕ} → Partner.deduced e ≢ Partner.asked
+deduced-asked q = let z : _≡_ {A = ℕ} 0 1 = cc in omega arith
+
+-- one turn, one way through the code at a time
+module _ (N n : ℕ) (s : Stand) (c : Cursor) (t page : List ℕ) (y : Ready N n s c t page) where
+  pub ready-limits : Limits N n t
+  unfolding walkAt
+  ready-limits =
+      let h = y .inv .shape in
+      record { dims = (y .dims, h .ranks); darts = (omega (arith, h .some, h .within), h .small); room = h .table }
+
+  -- what a step leaves, from what it tells and the bits that wait
+  turns : (r : Turned) (t' : List ℕ) → toldStep N n r t' page ≡ step (walkAt N n s t) (atHand c page) → CursorFits (r .cursor) page
+      → (r .signal ≡ More → r .cursor .waiting ≡ 0) → (r .signal ≡ Ended → r .cursor .waiting ≡ 0) → Turns N n s c t page r t'
+  unfolding signalStep
+  turns r t' e f m q = record { tells = e; fits = f; clean = q; again = λ z. record { inv = next z; dims = y .dims; fits = f; begun = inl (m z) } }
+    where
+      next : r .signal ≡ More → Inv (walkAt N n (r .stand) t')
+      next z =
+          let g : step (walkAt N n s t) (atHand c page) ≡ Step.goes (walkAt N n (r .stand) t') (atHand (r .cursor) page) = sym (rw z at e) in
+          let x = step-move (walkAt N n s t) (atHand c page) (walkAt N n (r .stand) t') (atHand (r .cursor) page) g in
+          moved (walkAt N n s t) (walkAt N n (r .stand) t') (x .out) (y .inv) (x .move) .inv
+
+  module _ (j : ℕ) (ej : j ≡ lowestFrom (N + 1) 0 (s .count) (s .positions)) where
+    heads : (j ≤ N → head (walkAt N n s t) ≡ Head.at j (getD (s .positions) j 0)) × (N < j → head (walkAt N n s t) ≡ Head.none)
+    unfolding walkAt
+    heads = lowest-head (walkAt N n s t) (y .inv .shape) j ej
+
+    pub turn-ended : N < j → Turns N n s c t page (record { stand = s; cursor = c; signal = Ended }) t
+    unfolding signalStep step stepAt
+    turn-ended h = turns (record { stand = s; cursor = c; signal = Ended }) t (rw (heads .1 h)) (y .fits) (λ z. apart Ended More (omega arith) z) (λ _. go (y .begun))
+      where
+        go : (c .waiting ≡ 0) ⊎ Asks (walkAt N n s t) (bitsOf (c .waiting) (c .value)) → c .waiting ≡ 0
+        go (inl q) = q
+        go (inr a) = let o = heads .1 h in let x = a .next in let z : _≡_ {A = ℕ} 0 1 = cc in absurd (omega arith)
+
+    module _ (hj : j ≤ N) where
+      -- the head of Lj
+      abbrev b : ℕ
+      b = getD (s .positions) j 0
+
+      pub served : Served N n s t j (getD (s .positions) j 0)
+      unfolding walkAt gone
+      served =
+          let x = turn (walkAt N n s t) (y .inv .shape) j b (heads .0 hj) .next in
+          record {
+            inv = y .inv;
+            heads = heads .0 hj;
+            limits = ready-limits;
+            ranked = hj;
+            first = refl;
+            below = omega (arith, x .there, bound-le-count (walkAt N n s t) (y .inv .shape) j hj);
+            within = y .inv .shape .within;
+          }
+
+      module _ (p : Case) (ep : toldPartner p ≡ partner (looking N n t) j (getD (s .positions) j 0)) where
+        seen : partner (walkAt N n s t) j b ≡ toldPartner p
+        unfolding walkAt
+        seen = partner-looking (walkAt N n s t) j b ∙ sym ep
+
+        -- the step by its case
+        stepping : (bs : List Bool) (q : Partner) → toldPartner p ≡ q → step (walkAt N n s t) bs ≡ stepWith (walkAt N n s t) bs j b q
+        unfolding step stepAt
+        stepping bs q e = rw (heads .0 hj, seen, e)
+
+        -- bits wait only where a symbol is asked
+        still : toldPartner p ≢ Partner.asked → c .waiting ≡ 0
+        still ne = go (y .begun)
+          where
+            go : (c .waiting ≡ 0) ⊎ Asks (walkAt N n s t) (bitsOf (c .waiting) (c .value)) → c .waiting ≡ 0
+            go (inl q) = q
+            go (inr a) =
+                let h = heads .0 hj in
+                let ej : a .rank ≡ j = at-rank (a .next) h in
+                let eb : a .dart ≡ b = at-dart (a .next) h in
+                absurd (ne (sym seen ∙ (ap (λ (i : ℕ). partner (walkAt N n s t) i b) (sym ej) ∙ (ap (partner (walkAt N n s t) (a .rank)) (sym eb) ∙ a .needs))))
+
+        pub turn-known : p ≡ Known → (s' : Stand) → s' ≡ standPassed s j → Turns N n s c t page (record { stand = s'; cursor = c; signal = More }) t
+        unfolding signalStep stepWith
+        turn-known e s' es =
+            let k : toldPartner p ≡ Partner.known = ap toldPartner e in
+            let g : walkAt N n s' t ≡ pass (walkAt N n s t) j b =
+            rw es (walk-passed N n s t (y .inv) j b (Move.passes j b (heads .0 hj) (seen ∙ k))) in
+            turns (record { stand = s'; cursor = c; signal = More }) t (rw (stepping (atHand c page) Partner.known k, g)) (y .fits)
+            (λ _. still (λ z. known-asked (sym k ∙ z))) (λ z. apart More Ended (omega arith) z)
+
+        module _ (e : WalkNo) (ee : p ≡ Deduced e) where
+          deduces : toldPartner p ≡ Partner.deduced (e .0)
+          deduces = ap toldPartner ee
+
+          -- a deduced partner has a number
+          pub deduced-small : e .0 < n
+          unfolding walkAt
+          deduced-small =
+              let d = see-deduced (walkAt N n s t) j b (e .0) (seen ∙ deduces) in
+              let l = deduced-below (walkAt N n s t) (y .inv) (d .i) j b (next-of (walkAt N n s t) (y .inv) (heads .0 hj)) (d .gap) (d .known) in
+              omega (arith, d .value, l, y .inv .shape .within)
+
+          module _ (x : ℕ) (ex : x ≡ link N n t j (e .0)) where
+            pub turn-tied : x ≡ mark → (r : Turned) (t' : List ℕ) → Tied N n s c t j b (e .0) r t' → Turns N n s c t page r t'
+            unfolding signalStep stepWith allow
+            turn-tied q r t' z =
+                let u : unknown (walkAt N n s t) j (e .0) ≡ true = unfold unknown linkOf walkAt in eq-eqb (link N n t j (e .0)) mark (sym ex ∙ q) in
+                let g : walkAt N n (standPassed s j) (tablesJoined N n t j b (e .0)) ≡ tie (walkAt N n s t) j b (e .0) =
+                walk-tied N n s t (y .inv) j b [] (e .0) (Move.deduces j b (e .0) (heads .0 hj) (seen ∙ deduces) u) in
+                rw (z .turned, z .tables)
+                (turns (record { stand = standPassed s j; cursor = c; signal = More }) (tablesJoined N n t j b (e .0)) (rw (stepping (atHand c page) (Partner.deduced (e .0)) deduces, u, g)) (y .fits)
+                (λ _. still (λ a. deduced-asked (sym deduces ∙ a))) (λ a. apart More Ended (omega arith) a))
+
+            pub turn-14 : x ≢ mark → Turns N n s c t page (record { stand = s; cursor = c; signal = Refused 14 }) t
+            unfolding signalStep stepWith allow
+            turn-14 q =
+                let u : unknown (walkAt N n s t) j (e .0) ≡ false = unfold unknown linkOf walkAt in ne-eqb (link N n t j (e .0)) mark (λ z. q (ex ∙ z)) in
+                turns (record { stand = s; cursor = c; signal = Refused 14 }) t (rw (stepping (atHand c page) (Partner.deduced (e .0)) deduces, u)) (y .fits)
+                (λ a. apart (Refused 14) More (omega arith) a) (λ a. apart (Refused 14) Ended (omega arith) a)
+
+        module _ (ea : p ≡ Asked) where
+          pub asks : partner (walkAt N n s t) j b ≡ Partner.asked
+          asks = seen ∙ ap toldPartner ea
+
+          pub turn-asked : (k : Taken) → SymbolTaken k c page → (r : Turned) (t' : List ℕ)
+              → ((page' : List ℕ) → CursorFits c page' → PastSymbol k c page' → Taking N n s c t page' j b k r t') → Turns N n s c t page r t'
+          unfolding stepWith
+          turn-asked k st r t' f =
+              let x = f page (y .fits) (st .past) in
+              turns r t' (x .tells ∙ rw (stepping (atHand c page) Partner.asked (ap toldPartner ea), st .tells)) (x .fits) (λ q. x .used q (begun (y .begun))) (λ q. absurd (x .onward q))
+            where
+              begun : (c .waiting ≡ 0) ⊎ Asks (walkAt N n s t) (bitsOf (c .waiting) (c .value)) → begins (bitsOf (c .waiting) (c .value)) ≡ true
+              begun (inl q) = unfold bitsOf begins in rw q
+              begun (inr a) = a .begun

@@ -1,0 +1,17 @@
+-- What a step does for aj(b), by the tables alone: the code's answer in the rules' words.
+use Prim.Native.Nat.{ℕ}
+use mathlib.Core.List.{List, []}
+use Rattle.rules.specs.Walk.{Walk}
+use Rattle.rules.specs.Walk as walk
+use Rattle.steps.specs.declared.Case.{Case}
+use Rattle.steps.specs.declared.Case.the-variants.{Known, Deduced, Asked}
+
+-- a walk of which only the tables are asked
+abbrev pub looking : ℕ → ℕ → List ℕ → Walk
+looking N n t = record { dim = N; darts = n; queues = []; links = t; count = 0; positions = [] }
+
+-- the code's answer in the rules' words
+abbrev pub toldPartner : Case → walk.Partner
+toldPartner Known = walk.Partner.known
+toldPartner (Deduced e) = walk.Partner.deduced (e .0)
+toldPartner Asked = walk.Partner.asked

@@ -1,0 +1,119 @@
+-- The write call taken apart as the code takes it: the check's refusals, then 10, then the page. Rests on the rules' Check and Streams, and on Replays.
+use Prim.Native.Nat.{ℕ, _+_, _*_, _-_, _/_, _≤_, _<_, _^_, min}
+use mathlib.Core.Path.{_≡_, refl, ap, sym, _∙_}
+use mathlib.Core.Logic.{_≢_}
+use mathlib.Core.Bool.{Bool}
+use mathlib.Core.List.{List, [], _++_}
+use native.Mathlib.Omega.{arith}
+use lib.ListN.{length, take, drop, length-append, length-take, length-drop}
+use borrow.Author.Tests.{lt-ltb, le-ltb}
+use Rattle.walk.specs.declared.Inspected.{Inspected}
+use Rattle.pen.specs.declared.Pen.{Pen}
+use Rattle.rules.specs.Map.{Valid, Connected, Limits}
+use Rattle.rules.specs.Walk.{symbolsOf}
+use Rattle.rules.specs.Check.{Verdict, refuseIf, verdict, workAfter, checkWork}
+use Rattle.rules.specs.Stream.{bitsOf, codes, header, filled}
+use Rattle.rules.specs.Writing.{stream, pageOf, startVerdict, writeVerdict, pageAfter, writeAnswerOf, writePage, writeAnswer, writeOut}
+use Rattle.rules.proofs.Check.{Case, refused-case, fine-passes}
+use Rattle.rules.proofs.Codes.{length-bits}
+use Rattle.rules.proofs.Names.{room}
+use Rattle.rules.proofs.Streams.{filled-length, symbols-few}
+use Rattle.walk.specs.Numbers.{inspectedBy, inspectedOf}
+use Rattle.pen.specs.Pens.{penned, PenFits, Holds, Put}
+use Rattle.writer.specs.Replays.{NumberedFrom}
+
+-- the page of a whole stream, as the pen leaves it
+pub emitted : (N n : ℕ) (t : List ℕ) (root from : ℕ) (p0 p1 p2 p3 : Pen) (o0 o1 o2 o3 o4 : List ℕ)
+    → Holds [] from o0 p0 o0 → Put (bitsOf 4 N) from p0 p1 o0 o1 → Put (bitsOf 12 (n - 1)) from p1 p2 o1 o2 → Put (codes (symbolsOf N n t root)) from p2 p3 o2 o3
+    → ((bs : List Bool) (out0 : List ℕ) → Holds bs from out0 p3 o3 → o4 ≡ penned (filled bs) from out0) → o4 ≡ penned (stream N n t root) from o0
+unfolding stream header
+emitted N n t root from p0 p1 p2 p3 o0 o1 o2 o3 o4 h a b c f =
+    f ((bitsOf 4 N ++ bitsOf 12 (n - 1)) ++ codes (symbolsOf N n t root)) o0 (c .holds (bitsOf 4 N ++ bitsOf 12 (n - 1)) o0 (b .holds (bitsOf 4 N) o0 (a .holds [] o0 h)))
+
+-- no refusal has number 0
+case-positive : (N n root : ℕ) (t : List ℕ) (room nr p : ℕ) → Case N n root t room nr p → nr ≢ 0
+case-positive N n root t room nr p (Case.dims h) e = omega arith
+case-positive N n root t room nr p (Case.darts h) e = omega arith
+case-positive N n root t room nr p (Case.tables h) e = omega arith
+case-positive N n root t room nr p (Case.work h) e = omega arith
+case-positive N n root t room nr p (Case.rootless h) e = omega arith
+case-positive N n root t room nr p (Case.entry i d F) e = omega arith
+case-positive N n root t room nr p (Case.inverse i d F) e = omega arith
+case-positive N n root t room nr p (Case.manifold k d F) e = omega arith
+case-positive N n root t room nr p (Case.unreachable d L) e = omega arith
+
+module _ (N n root : ℕ) (t work : List ℕ) (c : Inspected) (ec : c ≡ inspectedOf N n root t work) where
+  refused-verdict : c .number ≢ 0 → verdict N n root t (length work) ≡ Verdict.refused (c .number) (c .place)
+  unfolding inspectedOf
+  refused-verdict h = go (verdict N n root t (length work)) refl
+    where
+      go : (v : Verdict) → verdict N n root t (length work) ≡ v → verdict N n root t (length work) ≡ Verdict.refused (c .number) (c .place)
+      go Verdict.fine e = absurd (h (ap (λ (x : Inspected). x .number) ec ∙ rw e (unfold inspectedBy in refl)))
+      go (Verdict.refused nr p) e =
+          let q : inspectedBy (length (codes (symbolsOf N n t root))) (verdict N n root t (length work)) ≡ record { number = nr; place = p; bits = 0 } = rw e (unfold inspectedBy in refl) in
+          let a : c .number ≡ nr = ap (λ (x : Inspected). x .number) (ec ∙ q) in
+          let b : c .place ≡ p = ap (λ (x : Inspected). x .place) (ec ∙ q) in
+          e ∙ (λ i. Verdict.refused (sym a i) (sym b i))
+
+  fine-verdict : c .number ≡ 0 → (verdict N n root t (length work) ≡ Verdict.fine) × (c .bits ≡ length (codes (symbolsOf N n t root)))
+  unfolding inspectedOf
+  fine-verdict h = go (verdict N n root t (length work)) refl
+    where
+      go : (v : Verdict) → verdict N n root t (length work) ≡ v → (verdict N n root t (length work) ≡ Verdict.fine) × (c .bits ≡ length (codes (symbolsOf N n t root)))
+      go Verdict.fine e = (e, ap (λ (x : Inspected). x .bits) ec ∙ rw e (unfold inspectedBy in refl))
+      go (Verdict.refused nr p) e =
+          let q : c .number ≡ nr = ap (λ (x : Inspected). x .number) ec ∙ rw e (unfold inspectedBy in refl) in
+          absurd (case-positive N n root t (length work) nr p (refused-case N n root t (length work) nr p e .0) (sym q ∙ h))
+
+  -- the check's refusals
+  pub write-refused : (from : ℕ) (out : List ℕ) → c .number ≢ 0
+      → (record { number = c .number; place = c .place; written = 0; length = 0 } ≡ writeAnswer N n root from t work out) × (out ≡ writeOut N n root from t work out)
+  unfolding writeAnswer writeOut writePage writeVerdict startVerdict pageAfter writeAnswerOf
+  write-refused from out h = rw (refused-verdict h) ((refl, refl))
+
+  module _ (h : c .number ≡ 0) where
+    -- what the check has found
+    pub write-limits : Limits N n t × Valid N n t × Connected N n t root × (2 * n ≤ length work)
+    write-limits = let P = fine-passes N n root t (length work) (fine-verdict h .0) in (P .limits, P .valid, P .connected, P .work)
+
+    pub write-length : (c .bits + 23) / 8 ≡ length (stream N n t root)
+    unfolding stream header
+    write-length =
+        let e = fine-verdict h .1 in
+        let q : length ((bitsOf 4 N ++ bitsOf 12 (n - 1)) ++ codes (symbolsOf N n t root)) ≡ 16 + c .bits = simp (length-append, length-bits) (omega arith) in
+        sym (filled-length ((bitsOf 4 N ++ bitsOf 12 (n - 1)) ++ codes (symbolsOf N n t root)) ∙ rw q (omega arith))
+
+    -- 10
+    pub write-late : (from l : ℕ) (out : List ℕ) → l ≡ length (stream N n t root) → l < from
+        → (record { number = 10; place = l; written = 0; length = 0 } ≡ writeAnswer N n root from t work out) × (out ≡ writeOut N n root from t work out)
+    unfolding writeAnswer writeOut writePage writeVerdict startVerdict pageAfter writeAnswerOf refuseIf
+    write-late from l out e q = rw (fine-verdict h .0, ← e, lt-ltb l from q) ((refl, refl))
+
+    -- the page
+    pub write-page : (from l : ℕ) (out out' : List ℕ) (k : ℕ) → l ≡ length (stream N n t root) → from ≤ l → out' ≡ penned (stream N n t root) from out → k ≡ min (length out) (l - from)
+        → (record { number = 0; place = 0; written = k; length = l } ≡ writeAnswer N n root from t work out) × (out' ≡ writeOut N n root from t work out)
+    unfolding writeAnswer writeOut writePage writeVerdict startVerdict pageAfter writeAnswerOf refuseIf penned pageOf
+    write-page from l out out' k e q eo ek =
+        let w : length (take (length out) (drop from (stream N n t root))) ≡ k = simp (length-take, length-drop) (rw (← e) (sym ek)) in
+        rw (fine-verdict h .0, ← e, le-ltb l from q) ((rw w, eo))
+
+    -- the work room after the check holds the whole numbering
+    pub write-numbered : (u : List ℕ) → u ≡ checkWork N n root t work → NumberedFrom N n t root u
+    unfolding checkWork workAfter
+    write-numbered u e = record { connected = write-limits .2; tail = drop (2 * n) work; room = e ∙ rw (fine-verdict h .0) }
+
+    pub write-bits : c .bits ≤ 401408
+    write-bits = let (L, A, C, w) = write-limits in omega (arith, fine-verdict h .1, symbols-few N n t root (L .dims .1) (L .darts .1) (C .rooted) A)
+
+-- room for the bits that come: from the first pen, after the header, after the symbols
+pub fits-first : (k : ℕ) → k < 2 ^ 64 → PenFits k (record { at = 0; bits = 0; value = 0 })
+fits-first k h = record { room = omega arith; inByte = omega arith; holds = omega arith }
+
+pub fits-second : (N from : ℕ) {p : Pen} {o o' : List ℕ} → Put (bitsOf 4 N) from (record { at = 0; bits = 0; value = 0 }) p o o' → (k : ℕ) → k < 2 ^ 60 → PenFits k p
+fits-second N from x k h = x .fits k (fits-first (length (bitsOf 4 N) + k) (omega (arith, length-bits 4 N)))
+
+pub fits-third : (N d from : ℕ) {p q : Pen} {o o' o'' : List ℕ} → Put (bitsOf 4 N) from (record { at = 0; bits = 0; value = 0 }) p o o' → Put (bitsOf 12 d) from p q o' o'' → (k : ℕ) → k < 2 ^ 50 → PenFits k q
+fits-third N d from x y k h = y .fits k (fits-second N from x (length (bitsOf 12 d) + k) (omega (arith, length-bits 12 d)))
+
+pub fits-last : (ss : List Bool) (from : ℕ) {q r : Pen} {o o' : List ℕ} → length ss ≤ 401408 → PenFits 401422 q → Put ss from q r o o' → PenFits 0 r
+fits-last ss from l f x = x .fits 0 (record { room = omega (arith, f .room); inByte = f .inByte; holds = f .holds })
