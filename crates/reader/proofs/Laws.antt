@@ -1,0 +1,391 @@
+-- The session's calls, one way through the code at a time: the header's bytes, a fit running session may go on, a complete one takes no byte. Rests on the rules' Fitness and
+-- Sessions, and on steps.
+use Prim.Native.Nat.{ℕ, _+_, _*_, _/_, _%_, _≤_, _<_, _^_}
+use mathlib.Core.Path.{_≡_, refl, ap, sym, _∙_}
+use mathlib.Core.Logic.{_≢_, _⊎_, inl, inr}
+use mathlib.Core.Bool.{Bool, true, false}
+use mathlib.Core.List.{List, [], _∷_, _++_, append-assoc, append-nil}
+use native.Mathlib.Omega.{arith}
+use lib.Pow.{pow-add}
+use native.Mathlib.Nat.{mul-le-mul}
+use lib.ListN.{length, getD, replicate, take, drop, length-append, length-take, length-drop, take-append-drop}
+use lib.Seq.{take-at, drop-at, take-append-le, drop-append-le}
+use lib.Dec.{leb}
+use borrow.Author.Tests.{le-leb, lt-leb}
+use Rattle.rules.specs.declared.Session.{Session}
+use Rattle.rules.specs.declared.ReadAnswer.{ReadAnswer}
+use Rattle.rules.specs.declared.State.{State}
+use Rattle.symbols.specs.declared.Cursor.{Cursor}
+use Rattle.steps.specs.declared.Stand.{Stand}
+use Rattle.records.specs.declared.Paged.{Paged}
+use Rattle.rules.specs.declared.State.the-variants.{Header, Running, Complete, Closed, Refused}
+use Rattle.rules.specs.Lists.{sum}
+use Rattle.rules.specs.Map.{dimFits, size, blank, Limits}
+use Rattle.rules.specs.Walk.{Walk, start, steps}
+use Rattle.rules.specs.Stream.{bitsOf, value, unpack}
+use Rattle.rules.specs.Reading.{runAll, Reading, spoiled, settle, begun, headerDim, headerDarts, readHeader, readingOf, closing, goodAnswer, plainAnswer, answerOf, tablesOf, readAnswer, readTables}
+use Rattle.rules.specs.Session.{idle, held, store, opened, walkOf, waitingOf, fit, Left, unchanged, leaves, goOn, afterEnd, pageAs, closeAs, ifFit, page, close, recordFor, tablesFor}
+use Rattle.rules.proofs.Positions.{Shape}
+use Rattle.rules.proofs.Codes.{length-bits, value-lt, value-bits}
+use Rattle.rules.proofs.Readings.{begins-13, fits-dim}
+use Rattle.rules.proofs.Fitness.{walk-held, waiting-held, Fits, FitSession, fit-session, fit-shape}
+use Rattle.rules.proofs.Sessions.{record-fit, close-reads}
+use Rattle.symbols.specs.Cursors.{atHand}
+use Rattle.steps.specs.Turns.{walkAt, Ready}
+use Rattle.steps.proofs.Turns.{walk-session, walk-start, ready-start}
+use Rattle.records.specs.Lefts.{leftBy, idleBy, heldBy}
+use Rattle.records.proofs.Lefts.{settle-same}
+use Rattle.reader.specs.Calls.{headed, standBy, cursorOf}
+
+-- bits one after the other
+value-append : (u v : List Bool) → value (u ++ v) ≡ value u * 2 ^ length v + value v
+unfolding value
+value-append [] v = omega arith
+value-append (true ∷ u) v =
+    let e : 2 ^ length (u ++ v) ≡ 2 ^ length u * 2 ^ length v = rw length-append (pow-add 2 (length u) (length v)) in
+    let r = value-append u v in
+    rw (e, r) (sum-out (2 ^ length u) (2 ^ length v) (value u) (value v))
+  where
+    sum-out : (a b c d : ℕ) → a * b + (c * b + d) ≡ (a + c) * b + d
+    sum-out a b c d = omega arith
+value-append (false ∷ u) v = value-append u v
+
+-- a header's two bytes: 4 bits N, 12 bits n-1
+module _ (x y : ℕ) (hx : x < 256) (hy : y < 256) (rest : List Bool) where
+  abbrev bits : List Bool
+  bits = bitsOf 8 x ++ (bitsOf 8 y ++ rest)
+
+  high : List Bool
+  high = take 4 (bitsOf 8 x)
+
+  low : List Bool
+  low = drop 4 (bitsOf 8 x)
+
+  high-length : length high ≡ 4
+  unfolding high
+  high-length = simp length-take (omega (arith, length-bits 8 x))
+
+  low-length : length low ≡ 4
+  unfolding low
+  low-length = simp length-drop (omega (arith, length-bits 8 x))
+
+  halves : value high * 16 + value low ≡ x
+  unfolding high low
+  halves =
+      let e : value (take 4 (bitsOf 8 x) ++ drop 4 (bitsOf 8 x)) ≡ value (take 4 (bitsOf 8 x)) * 2 ^ length (drop 4 (bitsOf 8 x)) + value (drop 4 (bitsOf 8 x)) = value-append (take 4 (bitsOf 8 x)) (drop 4 (bitsOf 8 x)) in
+      sym (rw (low-length, take-append-drop, value-bits 8 x hx) at e)
+
+  low-small : value low < 16
+  low-small = rw low-length at (value-lt low)
+
+  dim-is : headerDim bits ≡ x / 16
+  unfolding headerDim
+  dim-is =
+      let e : take 4 (bitsOf 8 x ++ (bitsOf 8 y ++ rest)) ≡ high = unfold high in take-append-le 4 (bitsOf 8 x) (bitsOf 8 y ++ rest) (omega (arith, length-bits 8 x)) in
+      rw e (omega (arith, halves, low-small))
+
+  darts-are : headerDarts bits ≡ x % 16 * 256 + y + 1
+  unfolding headerDarts
+  darts-are =
+      let e : drop 4 (bitsOf 8 x ++ (bitsOf 8 y ++ rest)) ≡ low ++ (bitsOf 8 y ++ rest) = unfold low in drop-append-le 4 (bitsOf 8 x) (bitsOf 8 y ++ rest) (omega (arith, length-bits 8 x)) in
+      let l : length (low ++ bitsOf 8 y) ≡ 12 = simp length-append (omega (arith, low-length, length-bits 8 y)) in
+      let f : take 12 (low ++ (bitsOf 8 y ++ rest)) ≡ low ++ bitsOf 8 y = rw (← append-assoc low (bitsOf 8 y) rest) (take-at (low ++ bitsOf 8 y) rest 12 l) in
+      let v : value (low ++ bitsOf 8 y) ≡ value low * 256 + y = rw (length-bits 8 y, value-bits 8 y hy) at (value-append low (bitsOf 8 y)) in
+      rw (e, f, v) (omega (arith, halves, low-small))
+
+  rest-is : drop 16 bits ≡ rest
+  rest-is =
+      let l : length (bitsOf 8 x ++ bitsOf 8 y) ≡ 16 = simp length-append (omega (arith, length-bits 8 x, length-bits 8 y)) in
+      rw (← append-assoc (bitsOf 8 x) (bitsOf 8 y) rest) (drop-at (bitsOf 8 x ++ bitsOf 8 y) rest 16 l)
+
+  -- reading from two whole bytes on
+  pub reading-begun : (t : List ℕ) → readingOf bits t ≡ begun (dimFits (x / 16)) (leb (size (x / 16) (x % 16 * 256 + y + 1)) (length t)) (x / 16) (x % 16 * 256 + y + 1) rest t
+  unfolding readingOf readHeader
+  reading-begun t =
+      let l : leb 16 (length bits) ≡ true = le-leb 16 (length bits) (simp length-append (omega (arith, length-bits 8 x, length-bits 8 y))) in
+      rw (l, dim-is, darts-are, rest-is)
+
+-- refused before a walk: the tables stay
+pub refused-left : (r : Paged) (nr p : ℕ) (t : List ℕ) → r .session ≡ idleBy (Refused nr p) 0 0 → r .answer ≡ plainAnswer nr p → leftBy r t ≡ leaves (Reading.refused nr p t) t
+unfolding leftBy leaves store idle answerOf tablesOf value
+refused-left r nr p t e f = λ i. record { session = e i; answer = f i; tables = t }
+
+-- the bits of a header that waits
+header-left : (r : Paged) (bits : List Bool) (t : List ℕ) → r .session ≡ idleBy Header (length bits) (value bits) → r .answer ≡ plainAnswer 0 0 → length bits < 16 → leftBy r t ≡ leaves (readingOf bits t) t
+unfolding leftBy leaves readingOf readHeader
+header-left r bits t e f h = rw (lt-leb 16 (length bits) h) (unfold store idle answerOf tablesOf in λ i. record { session = e i; answer = f i; tables = t })
+
+-- a header that is in: 1, 3, or the walk
+module _ (r : Paged) (N n : ℕ) (bits : List Bool) (t : List ℕ) where
+  pub begin-dim : r .session ≡ idleBy (Refused 1 0) 0 0 → r .answer ≡ plainAnswer 1 0 → dimFits N ≡ false → leftBy r t ≡ leaves (begun (dimFits N) (leb (size N n) (length t)) N n bits t) t
+  unfolding begun
+  begin-dim e f h = rw h (refused-left r 1 0 t e f)
+
+  pub begin-room : r .session ≡ idleBy (Refused 3 0) 0 0 → r .answer ≡ plainAnswer 3 0 → dimFits N ≡ true → length t < size N n → leftBy r t ≡ leaves (begun (dimFits N) (leb (size N n) (length t)) N n bits t) t
+  unfolding begun
+  begin-room e f h l = rw (h, lt-leb (size N n) (length t) l) (refused-left r 3 0 t e f)
+
+  pub begin-walk : (u : List ℕ) (c : Cursor) (page : List ℕ) (b : List ℕ) → b ≡ blank (size N n) t → leftBy r u ≡ leaves (settle (runAll (walkAt N n (record { count = 1; positions = replicate 7 0 }) b) (atHand c page))) b
+      → atHand c page ≡ bits → (1 ≤ N) × (N ≤ 6) → (1 ≤ n) × (n ≤ 4096) → size N n ≤ length t → leftBy r u ≡ leaves (begun (dimFits N) (leb (size N n) (length t)) N n bits t) t
+  unfolding begun
+  begin-walk u c page b eb e ea hN hn l =
+      let w : walkAt N n (record { count = 1; positions = replicate 7 0 }) b ≡ start N n t = rw eb (walk-start N n t (hn .0) (hn .1) (hN .1)) in
+      rw (fits-dim N (hN .0) (hN .1), le-leb (size N n) (length t) l)
+      (e ∙ (rw (w, ea) (settle-same (runAll (start N n t) bits) b t)))
+
+-- a fresh cursor at a byte has the bits from there on
+pub fresh-hand : (at : ℕ) (page : List ℕ) → atHand (record { waiting = 0; value = 0; at = at; bit = 0 }) page ≡ unpack (drop at page)
+unfolding atHand bitsOf
+fresh-hand at page = refl
+
+-- a page on a header session, by what waits and how long the page is
+waiting-none : (s : Session) → s .waiting ≡ 0 → waitingOf s ≡ []
+unfolding waitingOf bitsOf
+waiting-none s e = rw e
+
+waiting-byte : (s : Session) → s .waiting ≡ 8 → waitingOf s ≡ bitsOf 8 (s .value)
+unfolding waitingOf
+waiting-byte s e = rw e
+
+-- no bits or eight
+pub waits-byte : (k : ℕ) → (k ≡ 0) ⊎ (k ≡ 8) → k ≢ 0 → k ≡ 8
+waits-byte k (inl e) h = absurd (h e)
+waits-byte k (inr e) h = e
+
+pub header-none : (r : Paged) (s : Session) (page t : List ℕ) → s .waiting ≡ 0 → length page ≡ 0 → r .session ≡ idleBy Header 0 0 → r .answer ≡ plainAnswer 0 0 → leftBy r t ≡ leaves (readingOf (waitingOf s ++ unpack page) t) t
+unfolding unpack value
+header-none r s [] t z l e f = rw (waiting-none s z) (header-left r [] t e f (omega arith))
+header-none r s (x ∷ page) t z l e f = absurd (omega arith)
+
+pub header-one : (r : Paged) (s : Session) (page t : List ℕ) → s .waiting ≡ 0 → length page ≡ 1 → getD page 0 0 < 256 → r .session ≡ idleBy Header 8 (getD page 0 0) → r .answer ≡ plainAnswer 0 0
+    → leftBy r t ≡ leaves (readingOf (waitingOf s ++ unpack page) t) t
+unfolding unpack
+header-one r s [] t z l b e f = absurd (omega arith)
+header-one r s (x ∷ []) t z l b e f =
+    rw (waiting-none s z, append-nil) (header-left r (bitsOf 8 x) t (e ∙ rw (length-bits 8 x, value-bits 8 x b)) f (omega (arith, length-bits 8 x)))
+header-one r s (x ∷ y ∷ page) t z l b e f = absurd (omega arith)
+
+pub header-kept : (r : Paged) (s : Session) (page t : List ℕ) → s .waiting ≡ 8 → length page ≡ 0 → s .value < 256 → r .session ≡ idleBy Header 8 (s .value) → r .answer ≡ plainAnswer 0 0
+    → leftBy r t ≡ leaves (readingOf (waitingOf s ++ unpack page) t) t
+unfolding unpack
+header-kept r s [] t z l b e f =
+    rw (waiting-byte s z, append-nil) (header-left r (bitsOf 8 (s .value)) t (e ∙ rw (length-bits 8 (s .value), value-bits 8 (s .value) b)) f (omega (arith, length-bits 8 (s .value))))
+header-kept r s (x ∷ page) t z l b e f = absurd (omega arith)
+
+pub header-two : (r : Paged) (s : Session) (page t u : List ℕ) → s .waiting ≡ 0 → 2 ≤ length page → getD page 0 0 < 256 → getD page 1 0 < 256
+    → leftBy r u ≡ leaves (headed (getD page 0 0) (getD page 1 0) (unpack (drop 2 page)) t) t → leftBy r u ≡ leaves (readingOf (waitingOf s ++ unpack page) t) t
+unfolding unpack headed
+header-two r s [] t u z l a b e = absurd (omega arith)
+header-two r s (x ∷ []) t u z l a b e = absurd (omega arith)
+header-two r s (x ∷ y ∷ page) t u z l a b e = rw (waiting-none s z, reading-begun x y a b (unpack page) t) e
+
+pub header-last : (r : Paged) (s : Session) (page t u : List ℕ) → s .waiting ≡ 8 → 1 ≤ length page → s .value < 256 → getD page 0 0 < 256
+    → leftBy r u ≡ leaves (headed (s .value) (getD page 0 0) (unpack (drop 1 page)) t) t → leftBy r u ≡ leaves (readingOf (waitingOf s ++ unpack page) t) t
+unfolding unpack headed
+header-last r s [] t u z l a b e = absurd (omega arith)
+header-last r s (y ∷ page) t u z l a b e = rw (waiting-byte s z, reading-begun (s .value) y a b (unpack page) t) e
+
+-- N out of 1 to 6
+pub unfit-dim : (N : ℕ) → (N < 1) ⊎ (6 < N) → dimFits N ≡ false
+unfolding dimFits
+unfit-dim N (inl h) = rw (lt-leb 1 N h)
+unfit-dim N (inr h) = rw (le-leb 1 N (omega arith), lt-leb N 6 h)
+
+-- (N+1)·n fits
+pub size-small : (N n : ℕ) → N ≤ 6 → n ≤ 4096 → (N + 1) * n ≤ 28672
+size-small N n hN hn = mul-le-mul {n₁ = N + 1} {m₁ = n} {n₂ = 7} {m₂ = 4096} (omega arith) hn
+
+pub size-is : (N n : ℕ) → (N + 1) * n ≡ size N n
+size-is N n = ap (λ (x : ℕ). x * n) (omega arith)
+
+pub begin-blank : (N n : ℕ) (t b : List ℕ) → b ≡ blank ((N + 1) * n) t → b ≡ blank (size N n) t
+begin-blank N n t b e = e ∙ ap (λ (k : ℕ). blank k t) (size-is N n)
+
+pub begin-ready : (N n at : ℕ) (t page : List ℕ) → (1 ≤ N) × (N ≤ 6) → (1 ≤ n) × (n ≤ 4096) → (b : List ℕ) → b ≡ blank ((N + 1) * n) t → at ≤ length page
+    → Ready N n (record { count = 1; positions = replicate 7 0 }) (record { waiting = 0; value = 0; at = at; bit = 0 }) b page
+begin-ready N n at t page hN hn b e h =
+    rw (begin-blank N n t b e) (ready-start N n (record { waiting = 0; value = 0; at = at; bit = 0 }) t page hN hn (record { few = omega arith; holds = omega arith; within = h; inByte = omega arith }) refl)
+
+-- states are told apart
+abbrev stateNo : State → ℕ
+stateNo Header = 0
+stateNo Running = 1
+stateNo Complete = 2
+stateNo Closed = 3
+stateNo (Refused nr p) = 4
+
+other : {A : Type 0} (x y z : State) → x ≡ y → x ≡ z → stateNo y ≢ stateNo z → A
+other x y z p q h = absurd (h (ap stateNo (sym p ∙ q)))
+
+-- by the state that a record has
+pub by-state : {A : Type 0} (f : State → A) (s : Session) (st : State) (x : A) → s .state ≡ st → x ≡ f st → x ≡ f (s .state)
+by-state f s st x q e = e ∙ ap f (sym q)
+
+-- a fit session with a walk
+module _ (s : Session) (t : List ℕ) (seven : length (s .positions) ≡ 7) (e : fit s t ≡ true) where
+  pub header-bits : s .state ≡ Header → ((s .waiting ≡ 0) ⊎ (s .waiting ≡ 8)) × (s .value < 256)
+  header-bits q = go (fit-session s t seven e)
+    where
+      from : (r : Reading) → Fits r → s ≡ store r → ((s .waiting ≡ 0) ⊎ (s .waiting ≡ 8)) × (s .value < 256)
+      from _ (Fits.header {bs} h) es = unfold store idle in bits h (ap (λ (x : Session). x .waiting) es) (ap (λ (x : Session). x .value) es)
+        where
+          bits : (length bs ≡ 0) ⊎ (length bs ≡ 8) → s .waiting ≡ length bs → s .value ≡ value bs → ((s .waiting ≡ 0) ⊎ (s .waiting ≡ 8)) × (s .value < 256)
+          bits (inl h) ew ev = (inl (ew ∙ h), omega (arith, ev, rw h at (value-lt bs)))
+          bits (inr h) ew ev = (inr (ew ∙ h), omega (arith, ev, rw h at (value-lt bs)))
+      from _ (Fits.running v d a) es = unfold store held in other (s .state) Header Running q (ap (λ (x : Session). x .state) es) (omega arith)
+      from _ (Fits.complete v d h n) es = unfold store held in other (s .state) Header Complete q (ap (λ (x : Session). x .state) es) (omega arith)
+      from _ (Fits.refused {nr} {p} f) es = unfold store idle in other (s .state) Header (Refused nr p) q (ap (λ (x : Session). x .state) es) (omega arith)
+
+      go : FitSession s t → ((s .waiting ≡ 0) ⊎ (s .waiting ≡ 8)) × (s .value < 256)
+      go (FitSession.reading r f o es et) = from r f es
+      go (FitSession.closed z) = other (s .state) Header Closed q z (omega arith)
+      go (FitSession.refused nr p z f) = other (s .state) Header (Refused nr p) q z (omega arith)
+
+  -- a running one may go on
+  pub running-ready : (page : List ℕ) → s .state ≡ Running → Ready (s .dim) (s .darts) (standBy s) (cursorOf s) t page
+  running-ready page q = go (fit-session s t seven e)
+    where
+      from : (r : Reading) → Fits r → s ≡ store r → t ≡ tablesOf r t → Ready (s .dim) (s .darts) (standBy s) (cursorOf s) t page
+      from _ (Fits.header {bs} h) es et = unfold store idle in other (s .state) Running Header q (ap (λ (x : Session). x .state) es) (omega arith)
+      from _ (Fits.running {w} {bs} v d a) es et = unfold store tablesOf in walking es et
+        where
+          walking : s ≡ held Running w bs → t ≡ w .links → Ready (s .dim) (s .darts) (standBy s) (cursorOf s) t page
+          walking es et =
+              let p : walkAt (s .dim) (s .darts) (standBy s) t ≡ w = sym (walk-session s t) ∙ ((λ i. walkOf (es i) (et i)) ∙ walk-held Running w bs (v .shape)) in
+              let b : bitsOf (s .waiting) (s .value) ≡ bs = unfold waitingOf in ap waitingOf es ∙ waiting-held Running w bs in
+              let ed : s .dim ≡ w .dim = unfold held in ap (λ (x : Session). x .dim) es in
+              let ew : s .waiting ≡ length bs = unfold held in ap (λ (x : Session). x .waiting) es in
+              let ev : s .value ≡ value bs = unfold held in ap (λ (x : Session). x .value) es in
+              record {
+                inv = rw p v;
+                dims = omega (arith, d, ed);
+                fits = record { few = omega (arith, ew, begins-13 bs (a .begun)); holds = rw (ew, ev) (value-lt bs); within = omega arith; inByte = omega arith };
+                begun = inr (rw (p, b) a);
+              }
+      from _ (Fits.complete v d h n) es et = unfold store held in other (s .state) Running Complete q (ap (λ (x : Session). x .state) es) (omega arith)
+      from _ (Fits.refused {nr} {p} f) es et = unfold store idle in other (s .state) Running (Refused nr p) q (ap (λ (x : Session). x .state) es) (omega arith)
+
+      go : FitSession s t → Ready (s .dim) (s .darts) (standBy s) (cursorOf s) t page
+      go (FitSession.reading r f o es et) = from r f es et
+      go (FitSession.closed z) = other (s .state) Running Closed q z (omega arith)
+      go (FitSession.refused nr p z f) = other (s .state) Running (Refused nr p) q z (omega arith)
+
+  -- a complete one is within the limits and its room
+  pub complete-limits : s .state ≡ Complete → Limits (s .dim) (s .darts) t
+  complete-limits q = go (fit-session s t seven e)
+    where
+      within : 1 ≤ s .dim → Limits (s .dim) (s .darts) t
+      within d =
+          let h : Shape (walkOf s t) = fit-shape s t seven (inr q) e in
+          unfold walkOf in record { dims = (d, h .ranks); darts = (omega (arith, h .some, h .within), h .small); room = h .table }
+
+      from : (r : Reading) → Fits r → s ≡ store r → Limits (s .dim) (s .darts) t
+      from _ (Fits.header {bs} h) es = unfold store idle in other (s .state) Complete Header q (ap (λ (x : Session). x .state) es) (omega arith)
+      from _ (Fits.running v d a) es = unfold store held in other (s .state) Complete Running q (ap (λ (x : Session). x .state) es) (omega arith)
+      from _ (Fits.complete {w} v d h n) es = unfold store held in within (omega (arith, d, ap (λ (x : Session). x .dim) es))
+      from _ (Fits.refused {nr} {p} f) es = unfold store idle in other (s .state) Complete (Refused nr p) q (ap (λ (x : Session). x .state) es) (omega arith)
+
+      go : FitSession s t → Limits (s .dim) (s .darts) t
+      go (FitSession.reading r f o es et) = from r f es
+      go (FitSession.closed z) = other (s .state) Complete Closed q z (omega arith)
+      go (FitSession.refused nr p z f) = other (s .state) Complete (Refused nr p) q z (omega arith)
+
+-- bits on a complete session
+after-more : (w : Walk) (bits : List Bool) → 1 ≤ length bits → afterEnd w bits ≡ spoiled 18 w
+unfolding afterEnd
+after-more w [] h = absurd (omega arith)
+after-more w (b ∷ bits) h = refl
+
+-- calls on the walk of a record
+pub running-may : (s : Session) (k : Stand) → k ≡ standBy s → (t page : List ℕ) → Ready (s .dim) (s .darts) (standBy s) (cursorOf s) t page → Ready (s .dim) (s .darts) k (cursorOf s) t page
+running-may s k ek t page y = rw ek y
+
+module _ (r : Paged) (s : Session) (k : Stand) (ek : k ≡ standBy s) (t : List ℕ) where
+  abbrev answerBy : Stand → ReadAnswer
+  answerBy x = record { number = 0; place = 0; steps = sum (x .positions); dim = s .dim; darts = s .darts }
+
+  walk-of : walkAt (s .dim) (s .darts) k t ≡ walkOf s t
+  walk-of = ap (λ (x : Stand). walkAt (s .dim) (s .darts) x t) ek ∙ sym (walk-session s t)
+
+  pub running-goes : (page u : List ℕ) → leftBy r u ≡ leaves (settle (runAll (walkAt (s .dim) (s .darts) k t) (atHand (cursorOf s) page))) t → leftBy r u ≡ leaves (goOn s (unpack page) t) t
+  unfolding goOn atHand waitingOf
+  running-goes page u e = rw walk-of at e
+
+  complete-left : r .session ≡ heldBy Complete (s .dim) (s .darts) k 0 0 → r .answer ≡ answerBy k → leftBy r t ≡ leaves (Reading.complete (walkOf s t)) t
+  unfolding leftBy leaves store held answerOf goodAnswer tablesOf steps walkOf value
+  complete-left e f = λ i. record { session = (e ∙ ap (λ (x : Stand). heldBy Complete (s .dim) (s .darts) x 0 0) ek) i; answer = (f ∙ ap answerBy ek) i; tables = t }
+
+  pub closed-left : r .session ≡ heldBy Closed (s .dim) (s .darts) k 0 0 → r .answer ≡ answerBy k → leftBy r t ≡ leaves (closing (Reading.complete (walkOf s t)) t) t
+  unfolding leftBy leaves closing store held answerOf goodAnswer tablesOf steps walkOf value
+  closed-left e f = λ i. record { session = (e ∙ ap (λ (x : Stand). heldBy Closed (s .dim) (s .darts) x 0 0) ek) i; answer = (f ∙ ap answerBy ek) i; tables = t }
+
+  pub complete-none : (page : List ℕ) → length page ≡ 0 → r .session ≡ heldBy Complete (s .dim) (s .darts) k 0 0 → r .answer ≡ answerBy k → leftBy r t ≡ leaves (afterEnd (walkOf s t) (unpack page)) t
+  unfolding unpack afterEnd
+  complete-none [] l e f = complete-left e f
+  complete-none (x ∷ page) l e f = absurd (omega arith)
+
+  pub complete-more : (page u : List ℕ) → length page ≢ 0 → leftBy r u ≡ leaves (spoiled 18 (walkAt (s .dim) (s .darts) k t)) t → leftBy r u ≡ leaves (afterEnd (walkOf s t) (unpack page)) t
+  unfolding unpack
+  complete-more [] u l e = absurd (l refl)
+  complete-more (x ∷ page) u l e =
+      let m : afterEnd (walkOf s t) (bitsOf 8 x ++ unpack page) ≡ spoiled 18 (walkOf s t) = after-more (walkOf s t) (bitsOf 8 x ++ unpack page) (simp length-append (omega (arith, length-bits 8 x))) in
+      rw m (rw walk-of at e)
+
+  pub close-running : (u : List ℕ) → leftBy r u ≡ leaves (spoiled 11 (walkAt (s .dim) (s .darts) k t)) t → leftBy r u ≡ leaves (closing (Reading.running (walkOf s t) (waitingOf s)) t) t
+  unfolding closing
+  close-running u e = rw walk-of at e
+
+-- calls that leave the tables
+module _ (r : Paged) (s : Session) (t : List ℕ) where
+  pub close-header : r .session ≡ idleBy (Refused 11 0) 0 0 → r .answer ≡ plainAnswer 11 0 → leftBy r t ≡ leaves (closing (Reading.header (waitingOf s)) t) t
+  unfolding closing
+  close-header e f = refused-left r 11 0 t e f
+
+  pub unchanged-left : (a : ReadAnswer) → r .session ≡ s → r .answer ≡ a → leftBy r t ≡ unchanged s t a
+  unfolding leftBy unchanged
+  unchanged-left a e f = λ i. record { session = e i; answer = f i; tables = t }
+
+-- the two calls, fit and not
+module _ (s : Session) (t : List ℕ) (x : Left) where
+  pub page-as : (bytes : List ℕ) → fit s t ≡ true → x ≡ pageAs (s .state) s (unpack bytes) t → x ≡ page s bytes t
+  unfolding page ifFit
+  page-as bytes h e = rw h e
+
+  pub page-unfit : (bytes : List ℕ) → fit s t ≡ false → x ≡ unchanged s t (plainAnswer 19 0) → x ≡ page s bytes t
+  unfolding page ifFit
+  page-unfit bytes h e = rw h e
+
+  pub close-as : fit s t ≡ true → x ≡ closeAs (s .state) s t → x ≡ close s t
+  unfolding close ifFit
+  close-as h e = rw h e
+
+  pub close-unfit : fit s t ≡ false → x ≡ unchanged s t (plainAnswer 19 0) → x ≡ close s t
+  unfolding close ifFit
+  close-unfit h e = rw h e
+
+-- nothing waits in a new session
+pub opened-bits : (s : Session) → s ≡ opened → ((s .waiting ≡ 0) ⊎ (s .waiting ≡ 8)) × (s .value < 256)
+opened-bits s e = (inl (ap (λ (x : Session). x .waiting) e), omega (arith, ap (λ (x : Session). x .value) e))
+
+-- a whole read: the record and the tables for all the bytes, closed
+module _ (r : Paged) (bytes t u : List ℕ) (o : Session) (eo : o ≡ opened) (e : leftBy r u ≡ leaves (readingOf (waitingOf o ++ unpack bytes) t) t) where
+  all-read : leftBy r u ≡ leaves (readingOf (unpack bytes) t) t
+  all-read = e ∙ ap (λ (s : Session). leaves (readingOf (waitingOf s ++ unpack bytes) t) t) eo ∙ rw (waiting-none opened refl)
+
+  record-read : r .session ≡ recordFor bytes t
+  unfolding leftBy leaves recordFor
+  record-read = ap (λ (x : Left). x .session) all-read
+
+  tables-read : u ≡ tablesFor bytes t
+  unfolding leftBy leaves tablesFor
+  tables-read = ap (λ (x : Left). x .tables) all-read
+
+  pub read-fit : fit (r .session) u ≡ true
+  read-fit = (λ i. fit (record-read i) (tables-read i)) ∙ record-fit bytes t
+
+  pub read-closed : (q : Paged) (v : List ℕ) → leftBy q v ≡ closeAs (r .session .state) (r .session) u → (q .answer ≡ readAnswer bytes t) × (v ≡ readTables bytes t)
+  unfolding leftBy
+  read-closed q v f =
+      let g : record { session = q .session; answer = q .answer; tables = v } ≡ close (recordFor bytes t) (tablesFor bytes t) = close-as (r .session) u (leftBy q v) read-fit f ∙ (λ i. close (record-read i) (tables-read i)) in
+      let c = close-reads bytes t in
+      (ap (λ (x : Left). x .answer) g ∙ c .0, ap (λ (x : Left). x .tables) g ∙ c .1)

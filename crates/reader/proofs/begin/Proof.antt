@@ -1,0 +1,97 @@
+-- `reader::begin` meets its contract: both header bytes: 1, 3, or the walk from its start. Assumes nothing.
+use borrow.Author.Needs.{needs}
+use Prim.Native.Nat.{_+_, _*_, _/_, _%_, _≤_}
+use mathlib.Core.Logic.{inl, inr}
+use native.Mathlib.Omega.{arith}
+use Rattle.reader.specs.Calls.{headed}
+use Rattle.rules.proofs.Readings.{fits-dim}
+use Rattle.reader.proofs.Laws.{unfit-dim, begin-dim, begin-room, begin-walk, fresh-hand, size-small, size-is, begin-blank, begin-ready}
+use Rattle.reader.proofs.begin.Statement.{statement}
+use Rattle.reader.proofs.begin.Tie as tie
+
+cast-dim : tie.Need-cast-dim
+cast-dim c = search needs
+
+cast-darts : tie.Need-cast-darts
+cast-darts c = search needs
+
+mul-darts : tie.Need-mul-darts
+mul-darts c = search needs
+
+add-darts : tie.Need-add-darts
+add-darts c = search needs
+
+add-darts-2 : tie.Need-add-darts-2
+add-darts-2 c = search needs
+
+refused-requires : tie.Need-refused-requires
+refused-requires c κs = search needs
+
+returns : tie.Need-returns
+unfolding headed
+returns c = begin-dim _ _ _ _ _ (c .refused .ensures .0) (c .refused .ensures .1) (unfit-dim _ (inl (c .before .if1 .taken)))
+
+refused-requires-2 : tie.Need-refused-requires-2
+refused-requires-2 c κs = search needs
+
+returns-2 : tie.Need-returns-2
+unfolding headed
+returns-2 c = begin-dim _ _ _ _ _ (c .refused2 .ensures .0) (c .refused2 .ensures .1) (unfit-dim _ (inr (c .before .if2 .taken)))
+
+add-size : tie.Need-add-size
+add-size c = search needs
+
+mul-size : tie.Need-mul-size
+mul-size c =
+    let a = c .before .before .before .before .args in
+    omega (arith, size-small (a .first / 16) (a .first % 16 * 256 + a .second + 1) (omega arith) (omega arith))
+
+refused-requires-3 : tie.Need-refused-requires-3
+refused-requires-3 c κs = search needs
+
+returns-3 : tie.Need-returns-3
+unfolding headed
+returns-3 c = begin-room _ _ _ _ _ (c .refused3 .ensures .0) (c .refused3 .ensures .1) (fits-dim _ (omega arith) (omega arith)) (rw (size-is _ _) at (c .before .if3 .taken))
+
+blank-requires : tie.Need-blank-requires
+blank-requires c κs = search needs
+
+go-on-requires : tie.Need-go-on-requires
+go-on-requires c κs =
+    let a = c .before .before .before .before .before .before .before .before .before .before .args in
+    let hN : (1 ≤ a .first / 16) × (a .first / 16 ≤ 6) = (omega arith, omega arith) in
+    let hn : (1 ≤ a .first % 16 * 256 + a .second + 1) × (a .first % 16 * 256 + a .second + 1 ≤ 4096) = (omega arith, omega arith) in
+    begin-ready _ _ _ _ _ hN hn _ (c .before .before .before .blank .ensures) (c .before .before .before .before .before .before .before .before .before .before .pre)
+
+same-length : tie.Need-same-length
+same-length c = search needs
+
+returns-4 : tie.Need-returns-4
+unfolding headed
+returns-4 c =
+    let a = c .before .before .before .before .before .before .before .before .before .before .before .before .before .args in
+    let hN : (1 ≤ a .first / 16) × (a .first / 16 ≤ 6) = (omega arith, omega arith) in
+    let hn : (1 ≤ a .first % 16 * 256 + a .second + 1) × (a .first % 16 * 256 + a .second + 1 ≤ 4096) = (omega arith, omega arith) in
+    begin-walk _ _ _ _ _ _ _ _ _ (begin-blank _ _ _ _ (c .before .before .before .before .before .before .blank .ensures)) (c .before .before .go-on .ensures) (fresh-hand _ _) hN hn (omega (arith, size-is (a .first / 16) (a .first % 16 * 256 + a .second + 1), c .before .before .before .before .before .before .before .before .if3 .left))
+
+pub begin-spec : {M : Type 1} → statement M
+begin-spec =
+    tie.close
+    (tie.spec
+    cast-dim
+    cast-darts
+    mul-darts
+    add-darts
+    add-darts-2
+    refused-requires
+    returns
+    refused-requires-2
+    returns-2
+    add-size
+    mul-size
+    refused-requires-3
+    returns-3
+    blank-requires
+    go-on-requires
+    same-length
+    returns-4)

@@ -1,0 +1,191 @@
+// The session's calls, by value: the page, closing, and the whole read (refusals 1, 3 and 11 to 20).
+use records::Paged;
+use rules::ReadAnswer;
+use rules::Session;
+use rules::State;
+use steps::Stand;
+use symbols::Cursor;
+ghost use mathlib.Core.Path.{_≡_};
+ghost use mathlib.Core.Bool.{true};
+ghost use mathlib.Core.Logic.{_⊎_};
+ghost use mathlib.Core.List.{_++_};
+ghost use Prim.Native.Nat.{_≤_, _<_};
+ghost use lib.ListN.{length, drop};
+ghost use Rattle.rules.specs.Map.{Limits};
+ghost use Rattle.rules.specs.Stream.{unpack};
+ghost use Rattle.rules.specs.Reading.{readAnswer, readTables, readingOf};
+ghost use Rattle.rules.specs.Session.{leaves, waitingOf, walkOf, goOn, afterEnd, pageAs, closeAs};
+ghost use Rattle.steps.specs.Turns.{Ready};
+ghost use Rattle.records.specs.Lefts.{leftBy, idleBy};
+ghost use Rattle.reader.specs.Calls.{headed, cursorOf, standBy};
+
+// Both header bytes are in; the page goes on at a byte of it.
+pub fn begin(first: u8, second: u8, at: usize, page: &[u8], tables: &mut [u16]) -> Paged
+    requires { ⌜ at ≤ length (now page) ⌝ }
+    ensures { λ r. ⌜ leftBy r (now (tables .exit)) ≡ leaves (headed first second (unpack (drop at (now (page .entry)))) (now (tables .entry))) (now (tables .entry)) ⌝ }
+{
+    let dim = (first / 16) as usize;
+    let darts = (first % 16) as usize * 256 + second as usize + 1;
+    if dim < 1 {
+        return records::refused(1, 0);
+    }
+    if 6 < dim {
+        return records::refused(1, 0);
+    }
+    let size = (dim + 1) * darts;
+    if tables.len() < size {
+        return records::refused(3, 0);
+    }
+    tables::blank(tables, size);
+    let stand = Stand {
+        count: 1,
+        positions: [0u16; 7],
+    };
+    let c = Cursor {
+        waiting: 0,
+        value: 0,
+        at,
+        bit: 0,
+    };
+    records::go_on(dim, darts, stand, c, page, tables)
+}
+
+// Fewer than two bytes of the header wait.
+pub fn header_waits(waiting: u16, value: u16) -> Paged
+    ensures { λ r. ⌜ (r .session ≡ idleBy State.Header waiting value) × (r .answer ≡ Rattle.rules.specs.Reading.plainAnswer 0 0) ⌝ }
+{
+    let session = records::idle(State::Header, waiting, value);
+    let answer = records::plain(0, 0);
+    Paged { session, answer }
+}
+
+// A page on a header session with no bits or eight.
+pub fn page_header(s: Session, page: &[u8], tables: &mut [u16]) -> Paged
+    requires { ⌜ ((s .waiting ≡ 0) ⊎ (s .waiting ≡ 8)) × (s .value < 256) ⌝ }
+    ensures { λ r. ⌜ leftBy r (now (tables .exit)) ≡ leaves (readingOf (waitingOf s ++ unpack (now (page .entry))) (now (tables .entry))) (now (tables .entry)) ⌝ }
+{
+    if s.waiting == 0 {
+        if page.len() == 0 {
+            return header_waits(0, 0);
+        }
+        if page.len() == 1 {
+            return header_waits(8, page[0] as u16);
+        }
+        return begin(page[0], page[1], 2, page, tables);
+    }
+    if page.len() == 0 {
+        return header_waits(8, s.value);
+    }
+    begin(s.value as u8, page[0], 1, page, tables)
+}
+
+// Where a record's walk stands.
+pub fn stand_of(s: Session) -> Stand
+    ensures { λ r. ⌜ r ≡ standBy s ⌝ }
+{
+    let positions = s.positions;
+    let count = s.count;
+    Stand { count, positions }
+}
+
+// A page on a running session: what waits comes first.
+pub fn page_running(s: Session, page: &[u8], tables: &mut [u16]) -> Paged
+    requires { ⌜ Ready (s .dim) (s .darts) (standBy s) (cursorOf s) (now tables) (now page) ⌝ }
+    ensures { λ r. ⌜ leftBy r (now (tables .exit)) ≡ leaves (goOn s (unpack (now (page .entry))) (now (tables .entry))) (now (tables .entry)) ⌝ }
+{
+    let stand = stand_of(s);
+    let c = Cursor {
+        waiting: s.waiting,
+        value: s.value,
+        at: 0,
+        bit: 0,
+    };
+    records::go_on(s.dim as usize, s.darts as usize, stand, c, page, tables)
+}
+
+// A byte on a complete session is 18.
+pub fn page_complete(s: Session, page: &[u8], tables: &mut [u16]) -> Paged
+    requires { ⌜ Limits (s .dim) (s .darts) (now tables) ⌝ }
+    ensures { λ r. ⌜ leftBy r (now (tables .exit)) ≡ leaves (afterEnd (walkOf s (now (tables .entry))) (unpack (now (page .entry)))) (now (tables .entry)) ⌝ }
+{
+    let stand = stand_of(s);
+    if page.len() == 0 {
+        return records::held(
+            State::Complete,
+            s.dim as usize,
+            s.darts as usize,
+            stand,
+            0,
+            0,
+        );
+    }
+    records::spoiled(18, s.dim as usize, s.darts as usize, stand, tables)
+}
+
+// A page on a fit session, by its state.
+pub fn page_fit(s: Session, page: &[u8], tables: &mut [u16]) -> Paged
+    requires { ⌜ Rattle.rules.specs.Session.fit s (now tables) ≡ true ⌝ }
+    ensures { λ r. ⌜ leftBy r (now (tables .exit)) ≡ pageAs (s .state) s (unpack (now (page .entry))) (now (tables .entry)) ⌝ }
+{
+    let state = s.state;
+    match state {
+        State::Header => page_header(s, page, tables),
+        State::Running => page_running(s, page, tables),
+        State::Complete => page_complete(s, page, tables),
+        State::Closed => records::unchanged(s, 20, 0),
+        State::Refused(number, place) => records::unchanged(s, number, place),
+    }
+}
+
+// Closing a fit session, by its state.
+pub fn close_fit(s: Session, tables: &mut [u16]) -> Paged
+    requires { ⌜ Rattle.rules.specs.Session.fit s (now tables) ≡ true ⌝ }
+    ensures { λ r. ⌜ leftBy r (now (tables .exit)) ≡ closeAs (s .state) s (now (tables .entry)) ⌝ }
+{
+    let state = s.state;
+    let stand = stand_of(s);
+    match state {
+        State::Header => records::refused(11, 0),
+        State::Running => records::spoiled(11, s.dim as usize, s.darts as usize, stand, tables),
+        State::Complete => records::held(
+            State::Closed,
+            s.dim as usize,
+            s.darts as usize,
+            stand,
+            0,
+            0,
+        ),
+        State::Closed => records::unchanged(s, 20, 0),
+        State::Refused(number, place) => records::unchanged(s, number, place),
+    }
+}
+
+// The page call.
+pub fn page(s: Session, bytes: &[u8], tables: &mut [u16]) -> Paged
+    ensures { λ r. ⌜ leftBy r (now (tables .exit)) ≡ Rattle.rules.specs.Session.page s (now (bytes .entry)) (now (tables .entry)) ⌝ }
+{
+    if fitness::fit(s, tables) {
+        return page_fit(s, bytes, tables);
+    }
+    records::unchanged(s, 19, 0)
+}
+
+// The close call.
+pub fn close(s: Session, tables: &mut [u16]) -> Paged
+    ensures { λ r. ⌜ leftBy r (now (tables .exit)) ≡ Rattle.rules.specs.Session.close s (now (tables .entry)) ⌝ }
+{
+    if fitness::fit(s, tables) {
+        return close_fit(s, tables);
+    }
+    records::unchanged(s, 19, 0)
+}
+
+// One whole read: a page of all the bytes on a new session, then closing. Such a session is fit, so that isn't tested.
+pub fn read(bytes: &[u8], tables: &mut [u16]) -> ReadAnswer
+    ensures { λ r. ⌜ (r ≡ readAnswer (now (bytes .entry)) (now (tables .entry))) × (now (tables .exit) ≡ readTables (now (bytes .entry)) (now (tables .entry))) ⌝ }
+{
+    let first = page_header(Session::open(), bytes, tables);
+    let s = first.session;
+    let last = close_fit(s, tables);
+    last.answer
+}

@@ -1,0 +1,165 @@
+-- What a session, an answer and tables leave, one way through the code at a time: refused and spoiled, held, the walk's end, and where a run leaves off.
+use Prim.Native.Nat.{ℕ, suc, _+_, _*_, _/_, _%_, _≤_, _<_}
+use mathlib.Core.Path.{_≡_, refl, ap, sym, _∙_}
+use mathlib.Core.Logic.{_≢_}
+use mathlib.Core.Bool.{Bool, true, false, not}
+use mathlib.Core.List.{List, [], _∷_}
+use native.Mathlib.Omega.{arith}
+use lib.ListN.{length, take, replicate}
+use lib.Dec.{eqb}
+use borrow.Author.Tests.{eq-eqb, ne-eqb, not-true, not-false}
+use Rattle.rules.specs.declared.Session.{Session}
+use Rattle.rules.specs.declared.ReadAnswer.{ReadAnswer}
+use Rattle.rules.specs.declared.State.{State}
+use Rattle.rules.specs.declared.State.the-variants as state
+use Rattle.rules.specs.Lists.{sum}
+use Rattle.rules.specs.Map.{Limits, size, blank, pairsOf, firstBroken}
+use Rattle.rules.specs.Walk.{Walk, steps}
+use Rattle.rules.specs.Stream.{value}
+use Rattle.rules.specs.Reading.{Run, runAll, Reading, spoiled, test, manifold, finish, settle, goodAnswer, plainAnswer, answerOf, tablesOf}
+use Rattle.rules.specs.Session.{Left, idle, held, store, leaves}
+use Rattle.rules.proofs.Walks.{Inv}
+use Rattle.symbols.specs.declared.Cursor.{Cursor}
+use Rattle.symbols.specs.Cursors.{atHand, CursorFits}
+use Rattle.steps.specs.declared.Stand.{Stand}
+use Rattle.steps.specs.declared.Turned.{Turned}
+use Rattle.steps.specs.declared.Signal.{Signal}
+use Rattle.steps.specs.declared.Signal.the-variants.{More, Ended, Waits, Refused}
+use Rattle.steps.specs.Turns.{walkAt, signalRun, toldRun, Ready, Runs}
+use Rattle.records.specs.declared.Paged.{Paged}
+use Rattle.records.specs.Lefts.{leftBy, idleBy, heldBy, Settles}
+
+left-of : (r : Paged) (t' : List ℕ) (s : Session) (a : ReadAnswer) (t : List ℕ) → r .session ≡ s → r .answer ≡ a → t' ≡ t → leftBy r t' ≡ record { session = s; answer = a; tables = t }
+unfolding leftBy
+left-of r t' s a t p q e = λ i. record { session = p i; answer = q i; tables = e i }
+
+-- the steps of a good answer
+pub answer-steps : {p q : ℕ} (N n : ℕ) → p ≡ q → _≡_ {A = ReadAnswer} (record { number = 0; place = 0; steps = p; dim = N; darts = n }) (record { number = 0; place = 0; steps = q; dim = N; darts = n })
+answer-steps N n e = λ i. record { number = 0; place = 0; steps = e i; dim = N; darts = n }
+
+-- refused, and the map's entries are the mark
+pub spoiled-left : (nr N n : ℕ) (s : Stand) (t t' : List ℕ) (r : Paged) (p : ℕ) → p ≡ sum (s .positions) → t' ≡ blank ((N + 1) * n) t
+    → (r .session ≡ idleBy (state.Refused nr p) 0 0) × (r .answer ≡ plainAnswer nr p) → leftBy r t' ≡ leaves (spoiled nr (walkAt N n s t)) t
+unfolding leaves store idle answerOf tablesOf spoiled steps walkAt value
+spoiled-left nr N n s t t' r p ep et h =
+    let k : (N + 1) * n ≡ suc N * n = ap (λ (x : ℕ). x * n) (omega arith) in
+    left-of r t' (idleBy (state.Refused nr (sum (s .positions))) 0 0) (plainAnswer nr (sum (s .positions))) (blank (suc N * n) t)
+    (h .0 ∙ ap (λ (x : ℕ). idleBy (state.Refused nr x) 0 0) ep)
+    (h .1 ∙ ap (λ (x : ℕ). plainAnswer nr x) ep)
+    (et ∙ ap (λ (x : ℕ). blank x t) k)
+
+-- a walk is held
+module _ (N n : ℕ) (s : Stand) (t : List ℕ) (r : Paged)
+    (answers : r .answer ≡ record { number = 0; place = 0; steps = sum (s .positions); dim = N; darts = n }) where
+  pub complete-left : r .session ≡ heldBy state.Complete N n s 0 0 → leftBy r t ≡ leaves (Reading.complete (walkAt N n s t)) t
+  unfolding leaves store held answerOf goodAnswer tablesOf steps walkAt value
+  complete-left e =
+      left-of r t (heldBy state.Complete N n s 0 0) (record { number = 0; place = 0; steps = sum (s .positions); dim = N; darts = n }) t e answers refl
+
+  pub running-left : (bs : List Bool) (k v : ℕ) → k ≡ length bs → v ≡ value bs → r .session ≡ heldBy state.Running N n s k v → leftBy r t ≡ leaves (Reading.running (walkAt N n s t) bs) t
+  unfolding leaves store held answerOf goodAnswer tablesOf steps walkAt
+  running-left bs k v ek ev e =
+      left-of r t (heldBy state.Running N n s (length bs) (value bs)) (record { number = 0; place = 0; steps = sum (s .positions); dim = N; darts = n }) t
+      (e ∙ (ap (λ (x : ℕ). heldBy state.Running N n s x v) ek ∙ ap (λ (x : ℕ). heldBy state.Running N n s (length bs) x) ev)) answers refl
+
+-- the walk's end, test by test
+module _ (N n : ℕ) (s : Stand) (t : List ℕ) (bs : List Bool) (r : Paged) (t' : List ℕ) where
+  way-15 : s .count ≢ n → finish (walkAt N n s t) bs ≡ spoiled 15 (walkAt N n s t)
+  unfolding finish test walkAt
+  way-15 h = rw (ne-eqb (s .count) n h)
+
+  pub end-15 : s .count ≢ n → leftBy r t' ≡ leaves (spoiled 15 (walkAt N n s t)) t → leftBy r t' ≡ leaves (finish (walkAt N n s t) bs) t
+  end-15 h e = e ∙ ap (λ (x : Reading). leaves x t) (sym (way-15 h))
+
+  module _ (all : s .count ≡ n) (b : ℕ) (eb : b ≡ firstBroken N n t (pairsOf N)) where
+    way-16 : b ≢ n → finish (walkAt N n s t) bs ≡ spoiled 16 (walkAt N n s t)
+    unfolding finish test walkAt manifold
+    way-16 h = rw (eq-eqb (s .count) n all, ← eb, ne-eqb b n h)
+
+    pub end-16 : b ≢ n → leftBy r t' ≡ leaves (spoiled 16 (walkAt N n s t)) t → leftBy r t' ≡ leaves (finish (walkAt N n s t) bs) t
+    end-16 h e = e ∙ ap (λ (x : Reading). leaves x t) (sym (way-16 h))
+
+    module _ (whole : b ≡ n) (f : Bool) (ef : not f ≡ eqb (value (take (length bs % 8) bs)) 0) where
+      way-17 : f ≡ true → finish (walkAt N n s t) bs ≡ spoiled 17 (walkAt N n s t)
+      unfolding finish test walkAt manifold
+      way-17 h = rw (eq-eqb (s .count) n all, ← eb, eq-eqb b n whole, ← ef, h)
+
+      pub end-17 : f ≡ true → leftBy r t' ≡ leaves (spoiled 17 (walkAt N n s t)) t → leftBy r t' ≡ leaves (finish (walkAt N n s t) bs) t
+      end-17 h e = e ∙ ap (λ (x : Reading). leaves x t) (sym (way-17 h))
+
+      module _ (zero : f ≡ false) (g : Bool) (eg : not g ≡ eqb (length bs / 8) 0) where
+        way-18 : g ≡ true → finish (walkAt N n s t) bs ≡ spoiled 18 (walkAt N n s t)
+        unfolding finish test walkAt manifold
+        way-18 h = rw (eq-eqb (s .count) n all, ← eb, eq-eqb b n whole, ← ef, zero, ← eg, h)
+
+        pub end-18 : g ≡ true → leftBy r t' ≡ leaves (spoiled 18 (walkAt N n s t)) t → leftBy r t' ≡ leaves (finish (walkAt N n s t) bs) t
+        end-18 h e = e ∙ ap (λ (x : Reading). leaves x t) (sym (way-18 h))
+
+        way-complete : g ≡ false → finish (walkAt N n s t) bs ≡ Reading.complete (walkAt N n s t)
+        unfolding finish test walkAt manifold
+        way-complete h = rw (eq-eqb (s .count) n all, ← eb, eq-eqb b n whole, ← ef, zero, ← eg, h)
+
+        pub end-complete : g ≡ false → leftBy r t' ≡ leaves (Reading.complete (walkAt N n s t)) t → leftBy r t' ≡ leaves (finish (walkAt N n s t) bs) t
+        end-complete h e = e ∙ ap (λ (x : Reading). leaves x t) (sym (way-complete h))
+
+-- where a run leaves off, by its signal
+module _ (w : Walk) (bs : List Bool) (t : List ℕ) (l : Left) (x : Signal) where
+  pub settled-refused : (nr : ℕ) → x ≡ Refused nr → l ≡ leaves (spoiled nr w) t → l ≡ leaves (settle (signalRun x w bs)) t
+  unfolding settle signalRun
+  settled-refused nr q e = rw q e
+
+  pub settled-ended : x ≡ Ended → l ≡ leaves (finish w bs) t → l ≡ leaves (settle (signalRun x w bs)) t
+  unfolding settle signalRun
+  settled-ended q e = rw q e
+
+  pub settled-waits : x ≡ Waits → l ≡ leaves (Reading.running w bs) t → l ≡ leaves (settle (signalRun x w bs)) t
+  unfolding settle signalRun
+  settled-waits q e = rw q e
+
+-- what a signal owes
+module _ (c : Cursor) (page : List ℕ) (x : Signal) (h : Settles x c page) where
+  pub owes-ended : x ≡ Ended → c .waiting ≡ 0
+  owes-ended q = rw q at h
+
+  pub owes-waits : x ≡ Waits → length (atHand c page) ≤ 13
+  owes-waits q = rw q at h
+
+  pub owes-more : x ≡ More → ⊥
+  owes-more q = rw q at h
+
+-- after a run the tables as they stood no longer matter
+test-same : (b : Bool) (nr : ℕ) (w : Walk) (x : Reading) (t u : List ℕ) → leaves x t ≡ leaves x u → leaves (test b nr w x) t ≡ leaves (test b nr w x) u
+unfolding test leaves tablesOf spoiled
+test-same true nr w x t u e = e
+test-same false nr w x t u e = refl
+
+pub settle-same : (x : Run) (t u : List ℕ) → leaves (settle x) t ≡ leaves (settle x) u
+unfolding settle finish leaves tablesOf spoiled
+settle-same (Run.ended w bs) t u =
+    test-same (eqb (w .count) (w .darts)) 15 w
+    (test (manifold w) 16 w (test (eqb (value (take (length bs % 8) bs)) 0) 17 w (test (eqb (length bs / 8) 0) 18 w (Reading.complete w)))) t u
+    (test-same (manifold w) 16 w (test (eqb (value (take (length bs % 8) bs)) 0) 17 w (test (eqb (length bs / 8) 0) 18 w (Reading.complete w))) t u
+    (test-same (eqb (value (take (length bs % 8) bs)) 0) 17 w (test (eqb (length bs / 8) 0) 18 w (Reading.complete w)) t u
+    (test-same (eqb (length bs / 8) 0) 18 w (Reading.complete w) t u refl)))
+settle-same (Run.waits w bs) t u = refl
+settle-same (Run.refused nr w) t u = refl
+
+-- a run, and where it leaves the session
+module _ (N n : ℕ) (s : Stand) (c : Cursor) (t page : List ℕ) (dims : 1 ≤ N) (r : Turned) (t' : List ℕ) (h : Runs N n s c t page r t') where
+  pub run-limits : Limits N n t'
+  unfolding walkAt
+  run-limits =
+      let x = h .inv .shape in
+      record { dims = (dims, x .ranks); darts = (omega (arith, x .some, x .within), x .small); room = x .table }
+
+  pub run-settles : Settles (r .signal) (r .cursor) page
+  run-settles = go (r .signal) refl
+    where
+      go : (x : Signal) → r .signal ≡ x → Settles x (r .cursor) page
+      go More e = absurd (h .stops e)
+      go Ended e = h .clean e
+      go Waits e = h .short e
+      go (Refused nr) e = tt
+
+  pub run-left : (l : Left) → l ≡ leaves (settle (toldRun N n r t' page)) t' → l ≡ leaves (settle (runAll (walkAt N n s t) (atHand c page))) t
+  run-left l e = e ∙ (ap (λ (x : Run). leaves (settle x) t') (h .tells) ∙ settle-same (runAll (walkAt N n s t) (atHand c page)) t' t)

@@ -1,0 +1,30 @@
+-- `records::held` meets its contract. Assumes nothing.
+use mathlib.Core.Path.{refl}
+use Rattle.records.proofs.Lefts.{answer-steps}
+use borrow.Author.Needs.{needs}
+use Rattle.records.proofs.held.Statement.{statement}
+use Rattle.records.proofs.held.Tie as tie
+use Rattle.records.proofs.held.Reads as reads
+use Rattle.records.proofs.held.Lts as lts
+use Rattle.records.proofs.steps_of.Reads as steps-of-reads
+
+steps-of-requires : tie.Need-steps-of-requires
+steps-of-requires c κs = search needs
+
+cast-t12 : tie.Need-cast-t12
+cast-t12 c = search needs
+
+cast-t13 : tie.Need-cast-t13
+cast-t13 c = search needs
+
+cast-t14 : tie.Need-cast-t14
+cast-t14 c = search needs
+
+cast-t15 : tie.Need-cast-t15
+cast-t15 c = search needs
+
+returns : tie.Need-returns
+returns c = (refl, answer-steps _ _ (c .steps-of .ensures))
+
+pub held-spec : {M : Type 1} → statement M
+held-spec = tie.close (tie.spec steps-of-requires cast-t12 cast-t13 cast-t14 cast-t15 returns)

@@ -1,0 +1,223 @@
+// The record and the answer that a reading leaves: refused, spoiled, held; the end of a walk, and where a run leaves the session.
+use rules::ReadAnswer;
+use rules::Session;
+use rules::State;
+use steps::Signal;
+use steps::Stand;
+use steps::Turned;
+use symbols::Cursor;
+ghost use mathlib.Core.Path.{_≡_};
+ghost use mathlib.Core.Bool.{not};
+ghost use mathlib.Core.List.{[]};
+ghost use Prim.Native.Nat.{_≤_, _<_, _%_, _/_};
+ghost use lib.ListN.{length, take};
+ghost use lib.Dec.{eqb};
+ghost use Rattle.rules.specs.Lists.{sum};
+ghost use Rattle.rules.specs.Map.{Limits};
+ghost use Rattle.rules.specs.Stream.{value};
+ghost use Rattle.rules.specs.Reading.{plainAnswer, goodAnswer, runAll};
+ghost use Rattle.rules.specs.Session.{leaves};
+ghost use Rattle.symbols.specs.Cursors.{CursorFits, atHand};
+ghost use Rattle.steps.specs.Turns.{walkAt, toldRun, Ready, Runs};
+ghost use Rattle.records.specs.Lefts.{leftBy};
+
+// A session and the answer of a call.
+pub struct Paged {
+    pub session: Session,
+    pub answer: ReadAnswer,
+}
+
+// N and n are 0; on a refusal the step count is the place.
+pub fn plain(number: u32, place: u32) -> ReadAnswer
+    ensures { λ r. ⌜ r ≡ plainAnswer number place ⌝ }
+{
+    ReadAnswer {
+        number,
+        place,
+        steps: place,
+        dim: 0,
+        darts: 0,
+    }
+}
+
+// The record stays as given.
+pub fn unchanged(s: Session, number: u32, place: u32) -> Paged
+    ensures { λ r. ⌜ (r .session ≡ s) × (r .answer ≡ plainAnswer number place) ⌝ }
+{
+    let answer = plain(number, place);
+    Paged { session: s, answer }
+}
+
+// A state with waiting bits, every other number 0.
+pub fn idle(state: State, waiting: u16, value: u16) -> Session
+    ensures { λ r. ⌜ r ≡ Rattle.records.specs.Lefts.idleBy state waiting value ⌝ }
+{
+    Session {
+        state,
+        dim: 0,
+        darts: 0,
+        count: 0,
+        positions: [0u16; 7],
+        waiting,
+        value,
+    }
+}
+
+// The steps done: the sum of the positions.
+pub fn steps_of(positions: [u16; 7]) -> u32
+    ensures { λ r. ⌜ r ≡ sum positions ⌝ }
+{
+    let mut sum: u32 = 0;
+    let mut i = 0;
+    while i < 7 {
+        sum += positions[i] as u32;
+        i += 1;
+    }
+    sum
+}
+
+// Refused: the state keeps number and place, and every other number of the record is 0.
+pub fn refused(number: u32, place: u32) -> Paged
+    ensures { λ r. ⌜ (r .session ≡ Rattle.records.specs.Lefts.idleBy (State.Refused number place) 0 0) × (r .answer ≡ plainAnswer number place) ⌝ }
+{
+    let session = idle(State::Refused(number, place), 0, 0);
+    let answer = plain(number, place);
+    Paged { session, answer }
+}
+
+// Refused by 11 to 18: the map's entries become the mark.
+pub fn spoiled(number: u32, dim: usize, darts: usize, stand: Stand, tables: &mut [u16]) -> Paged
+    requires { ⌜ Limits dim darts (now tables) ⌝ }
+    ensures { λ r. ⌜ leftBy r (now (tables .exit)) ≡ leaves (Rattle.rules.specs.Reading.spoiled number (walkAt dim darts stand (now (tables .entry)))) (now (tables .entry)) ⌝ }
+{
+    let positions = stand.positions;
+    let place = steps_of(positions);
+    tables::blank(tables, (dim + 1) * darts);
+    refused(number, place)
+}
+
+// Accepted so far: the record of the walk, and its answer.
+pub fn held(state: State, dim: usize, darts: usize, stand: Stand, waiting: u16, value: u16) -> Paged
+    requires { ⌜ (dim ≤ 6) × (darts ≤ 4096) ⌝ }
+    ensures { λ r. ⌜ (r .session ≡ Rattle.records.specs.Lefts.heldBy state dim darts stand waiting value) × (r .answer ≡ record { number = 0; place = 0; steps = sum (stand .positions); dim = dim; darts = darts }) ⌝ }
+{
+    let positions = stand.positions;
+    let count = stand.count;
+    let steps = steps_of(positions);
+    let session = Session {
+        state,
+        dim: dim as u16,
+        darts: darts as u16,
+        count,
+        positions,
+        waiting,
+        value,
+    };
+    let answer = ReadAnswer {
+        number: 0,
+        place: 0,
+        steps,
+        dim: dim as u32,
+        darts: darts as u32,
+    };
+    Paged { session, answer }
+}
+
+// Is a fill bit set in the rest of the byte where the cursor stands?
+pub fn fill_set(c: Cursor, page: &[u8]) -> bool
+    requires { ⌜ CursorFits c (now page) × (c .waiting ≡ 0) ⌝ }
+    ensures { λ r. ⌜ not r ≡ eqb (value (take (length (atHand c (now (page .entry))) % 8) (atHand c (now (page .entry))))) 0 ⌝ }
+{
+    let at = c.at;
+    let bit = c.bit;
+    if page.len() <= at {
+        return false;
+    }
+    if bit == 0 {
+        return false;
+    }
+    let rest = 1u8 << (8 - bit);
+    page[at] % rest != 0
+}
+
+// Is there a byte after the one where the cursor stands?
+pub fn byte_after(c: Cursor, page: &[u8]) -> bool
+    requires { ⌜ CursorFits c (now page) × (c .waiting ≡ 0) ⌝ }
+    ensures { λ r. ⌜ not r ≡ eqb (length (atHand c (now (page .entry))) / 8) 0 ⌝ }
+{
+    let at = c.at;
+    let bit = c.bit;
+    if page.len() <= at {
+        return false;
+    }
+    if bit == 0 {
+        return true;
+    }
+    at + 1 < page.len()
+}
+
+// The walk's end: 15, 16, 17, 18, then complete.
+pub fn finish(
+    dim: usize,
+    darts: usize,
+    stand: Stand,
+    c: Cursor,
+    page: &[u8],
+    tables: &mut [u16],
+) -> Paged
+    requires { ⌜ Limits dim darts (now tables) × CursorFits c (now page) × (c .waiting ≡ 0) ⌝ }
+    ensures { λ r. ⌜ leftBy r (now (tables .exit)) ≡ leaves (Rattle.rules.specs.Reading.finish (walkAt dim darts stand (now (tables .entry))) (atHand c (now (page .entry)))) (now (tables .entry)) ⌝ }
+{
+    let count = stand.count as usize;
+    if count != darts {
+        return spoiled(15, dim, darts, stand, tables);
+    }
+    if tables::first_broken(tables, dim, darts) != darts {
+        return spoiled(16, dim, darts, stand, tables);
+    }
+    if fill_set(c, page) {
+        return spoiled(17, dim, darts, stand, tables);
+    }
+    if byte_after(c, page) {
+        return spoiled(18, dim, darts, stand, tables);
+    }
+    held(State::Complete, dim, darts, stand, 0, 0)
+}
+
+// Where a run leaves the session.
+pub fn settle(dim: usize, darts: usize, t: Turned, page: &[u8], tables: &mut [u16]) -> Paged
+    requires { ⌜ Limits dim darts (now tables) × CursorFits (t .cursor) (now page) × Rattle.records.specs.Lefts.Settles (t .signal) (t .cursor) (now page) ⌝ }
+    ensures { λ r. ⌜ leftBy r (now (tables .exit)) ≡ leaves (Rattle.rules.specs.Reading.settle (toldRun dim darts t (now (tables .entry)) (now (page .entry)))) (now (tables .entry)) ⌝ }
+{
+    let stand = t.stand;
+    let cursor = t.cursor;
+    let signal = t.signal;
+    match signal {
+        Signal::Refused(number) => spoiled(number, dim, darts, stand, tables),
+        Signal::Ended => finish(dim, darts, stand, cursor, page, tables),
+        Signal::Waits => {
+            let w = cursor.rest(page);
+            held(State::Running, dim, darts, stand, w.bits, w.value)
+        }
+        Signal::More => {
+            let w = cursor.rest(page);
+            held(State::Running, dim, darts, stand, w.bits, w.value)
+        }
+    }
+}
+
+// The walk on a page's bits: every step that they allow, and where that leaves the session.
+pub fn go_on(
+    dim: usize,
+    darts: usize,
+    stand: Stand,
+    c: Cursor,
+    page: &[u8],
+    tables: &mut [u16],
+) -> Paged
+    requires { ⌜ Ready dim darts stand c (now tables) (now page) ⌝ }
+    ensures { λ r. ⌜ leftBy r (now (tables .exit)) ≡ leaves (Rattle.rules.specs.Reading.settle (runAll (walkAt dim darts stand (now (tables .entry))) (atHand c (now (page .entry))))) (now (tables .entry)) ⌝ }
+{
+    let t = steps::run(tables, dim, darts, stand, c, page);
+    settle(dim, darts, t, page, tables)
+}
