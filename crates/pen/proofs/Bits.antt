@@ -1,7 +1,7 @@
 -- Laws of bits put one by one: the number that they write, the bits of a number last bit last, and the bytes that they fill. Rests on the laws of codes.
 use Prim.Native.Nat.{ℕ, zero, suc, _+_, _*_, _-_, _/_, _%_, _≤_, _<_, _^_}
 use mathlib.Core.Path.{_≡_, refl, ap, sym, _∙_}
-use mathlib.Core.Bool.{Bool, true, false, cond}
+use mathlib.Core.Bool.{Bool, false, cond}
 use mathlib.Core.List.{List, [], _∷_, _++_, append-assoc, append-nil}
 use native.Mathlib.Omega.{arith}
 use native.Mathlib.Nat.{pow-suc}
@@ -10,23 +10,13 @@ use lib.Seq.{take-all, take-append-le, drop-append-le, drop-drop}
 use lib.Dec.{eqb}
 use lib.Pow.{shr-lt, shr-shr}
 use Rattle.rules.specs.Stream.{bitsOf, value, pack}
-use Rattle.rules.proofs.Codes.{length-bits, bits-value, value-bits}
+use Rattle.rules.proofs.Codes.{value-more, length-bits, bits-value, value-bits}
 
 -- a bit as a number
 pub bit-number : (bit : ℕ) → bit < 2 → cond (eqb bit 1) 1 0 ≡ bit
 bit-number zero h = refl
 bit-number (suc zero) h = refl
 bit-number (suc (suc b)) h = absurd (omega arith)
-
--- one bit more: Horner's rule
-pub value-more : (bs : List Bool) (b : Bool) → value (bs ++ (b ∷ [])) ≡ 2 * value bs + cond b 1 0
-unfolding value
-value-more [] true = refl
-value-more [] false = refl
-value-more (true ∷ bs) b =
-    let e : length (bs ++ (b ∷ [])) ≡ suc (length bs) = simp length-append (omega arith) in
-    rw (e, value-more bs b) (omega (arith, pow-suc 2 (length bs)))
-value-more (false ∷ bs) b = value-more bs b
 
 -- zero bits more
 pub value-zeros-more : (r : ℕ) (bs : List Bool) → value (bs ++ replicate r false) ≡ value bs * 2 ^ r
@@ -50,12 +40,6 @@ bits-next k v left h hv =
     let d : suc (k - suc left) + left ≡ k = omega arith in
     let q : v / 2 ^ left / 2 ≡ v / 2 ^ suc left = shr-shr v left 1 ∙ ap (λ (n : ℕ). v / 2 ^ n) (omega arith) in
     rw (e, ← q) (bits-last (k - suc left) (v / 2 ^ left) (shr-lt (suc (k - suc left)) left (rw d hv)))
-
--- bytes of bits
-pub length-pack : (k : ℕ) (bs : List Bool) → length (pack k bs) ≡ k
-unfolding pack
-length-pack zero bs = refl
-length-pack (suc k) bs = ap suc (length-pack k (drop 8 bs))
 
 pub pack-front : (k : ℕ) (bs more : List Bool) → 8 * k ≤ length bs → pack k (bs ++ more) ≡ pack k bs
 unfolding pack

@@ -15,13 +15,13 @@ use Rattle.rules.specs.declared.Dart.{Dart}
 use Rattle.rules.specs.declared.WalkNo.{WalkNo}
 use Rattle.rules.specs.Stream.{bitsOf, value, pack, code, codes, filled}
 use Rattle.rules.specs.Writing.{pageOf}
-use Rattle.rules.proofs.Codes.{length-bits, value-lt, filled-exact}
+use Rattle.rules.proofs.Codes.{length-pack, value-more, length-bits, value-lt, filled-exact}
 use Rattle.walk.specs.declared.Output.{Output}
 use Rattle.walk.specs.declared.Output.the-variants.{Nothing, Border, New, Index}
 use Rattle.walk.proofs.Laws.{symbolsFor}
 use Rattle.pen.specs.declared.Pen.{Pen}
 use Rattle.pen.specs.Pens.{stored, penned, PenFits, Holds, Put, IndexFits}
-use Rattle.pen.proofs.Bits.{bit-number, value-more, value-zeros-more, bits-next, length-pack, pack-front, pack-whole}
+use Rattle.pen.proofs.Bits.{bit-number, value-zeros-more, bits-next, pack-front, pack-whole}
 
 -- the code's three ways to store
 module _ (start at byte : ℕ) (out : List ℕ) where

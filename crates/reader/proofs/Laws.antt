@@ -6,7 +6,6 @@ use mathlib.Core.Logic.{_≢_, _⊎_, inl, inr}
 use mathlib.Core.Bool.{Bool, true, false}
 use mathlib.Core.List.{List, [], _∷_, _++_, append-assoc, append-nil}
 use native.Mathlib.Omega.{arith}
-use lib.Pow.{pow-add}
 use native.Mathlib.Nat.{mul-le-mul}
 use lib.ListN.{length, getD, replicate, take, drop, length-append, length-take, length-drop, take-append-drop}
 use lib.Seq.{take-at, drop-at, take-append-le, drop-append-le}
@@ -26,7 +25,7 @@ use Rattle.rules.specs.Stream.{bitsOf, value, unpack}
 use Rattle.rules.specs.Reading.{runAll, Reading, spoiled, settle, begun, headerDim, headerDarts, readHeader, readingOf, closing, goodAnswer, plainAnswer, answerOf, tablesOf, readAnswer, readTables}
 use Rattle.rules.specs.Session.{idle, held, store, opened, walkOf, waitingOf, fit, Left, unchanged, leaves, goOn, afterEnd, pageAs, closeAs, ifFit, page, close, recordFor, tablesFor}
 use Rattle.rules.proofs.Positions.{Shape}
-use Rattle.rules.proofs.Codes.{length-bits, value-lt, value-bits}
+use Rattle.rules.proofs.Codes.{value-append, length-bits, value-lt, value-bits}
 use Rattle.rules.proofs.Readings.{begins-13, fits-dim}
 use Rattle.rules.proofs.Fitness.{walk-held, waiting-held, Fits, FitSession, fit-session, fit-shape}
 use Rattle.rules.proofs.Sessions.{record-fit, close-reads}
@@ -36,19 +35,6 @@ use Rattle.steps.proofs.Turns.{walk-session, walk-start, ready-start}
 use Rattle.records.specs.Lefts.{leftBy, idleBy, heldBy}
 use Rattle.records.proofs.Lefts.{settle-same}
 use Rattle.reader.specs.Calls.{headed, standBy, cursorOf}
-
--- bits one after the other
-value-append : (u v : List Bool) → value (u ++ v) ≡ value u * 2 ^ length v + value v
-unfolding value
-value-append [] v = omega arith
-value-append (true ∷ u) v =
-    let e : 2 ^ length (u ++ v) ≡ 2 ^ length u * 2 ^ length v = rw length-append (pow-add 2 (length u) (length v)) in
-    let r = value-append u v in
-    rw (e, r) (sum-out (2 ^ length u) (2 ^ length v) (value u) (value v))
-  where
-    sum-out : (a b c d : ℕ) → a * b + (c * b + d) ≡ (a + c) * b + d
-    sum-out a b c d = omega arith
-value-append (false ∷ u) v = value-append u v
 
 -- a header's two bytes: 4 bits N, 12 bits n-1
 module _ (x y : ℕ) (hx : x < 256) (hy : y < 256) (rest : List Bool) where

@@ -1,31 +1,29 @@
 -- What a session, an answer and tables leave, one way through the code at a time: refused and spoiled, held, the walk's end, and where a run leaves off.
-use Prim.Native.Nat.{ℕ, suc, _+_, _*_, _/_, _%_, _≤_, _<_}
+use Prim.Native.Nat.{ℕ, suc, _+_, _*_, _/_, _%_, _≤_}
 use mathlib.Core.Path.{_≡_, refl, ap, sym, _∙_}
 use mathlib.Core.Logic.{_≢_}
 use mathlib.Core.Bool.{Bool, true, false, not}
-use mathlib.Core.List.{List, [], _∷_}
+use mathlib.Core.List.{List}
 use native.Mathlib.Omega.{arith}
-use lib.ListN.{length, take, replicate}
+use lib.ListN.{length, take}
 use lib.Dec.{eqb}
-use borrow.Author.Tests.{eq-eqb, ne-eqb, not-true, not-false}
+use borrow.Author.Tests.{eq-eqb, ne-eqb}
 use Rattle.rules.specs.declared.Session.{Session}
 use Rattle.rules.specs.declared.ReadAnswer.{ReadAnswer}
-use Rattle.rules.specs.declared.State.{State}
 use Rattle.rules.specs.declared.State.the-variants as state
 use Rattle.rules.specs.Lists.{sum}
-use Rattle.rules.specs.Map.{Limits, size, blank, pairsOf, firstBroken}
+use Rattle.rules.specs.Map.{Limits, blank, pairsOf, firstBroken}
 use Rattle.rules.specs.Walk.{Walk, steps}
 use Rattle.rules.specs.Stream.{value}
 use Rattle.rules.specs.Reading.{Run, runAll, Reading, spoiled, test, manifold, finish, settle, goodAnswer, plainAnswer, answerOf, tablesOf}
 use Rattle.rules.specs.Session.{Left, idle, held, store, leaves}
-use Rattle.rules.proofs.Walks.{Inv}
 use Rattle.symbols.specs.declared.Cursor.{Cursor}
-use Rattle.symbols.specs.Cursors.{atHand, CursorFits}
+use Rattle.symbols.specs.Cursors.{atHand}
 use Rattle.steps.specs.declared.Stand.{Stand}
 use Rattle.steps.specs.declared.Turned.{Turned}
 use Rattle.steps.specs.declared.Signal.{Signal}
 use Rattle.steps.specs.declared.Signal.the-variants.{More, Ended, Waits, Refused}
-use Rattle.steps.specs.Turns.{walkAt, signalRun, toldRun, Ready, Runs}
+use Rattle.steps.specs.Turns.{walkAt, signalRun, toldRun, Runs}
 use Rattle.records.specs.declared.Paged.{Paged}
 use Rattle.records.specs.Lefts.{leftBy, idleBy, heldBy, Settles}
 

@@ -1,10 +1,11 @@
 -- Codes are read back: bits and numbers, symbols and their codes, bytes and bits. Rests on the definitions of the stream alone.
 use Prim.Native.Nat.{ℕ, zero, suc, _+_, _*_, _-_, _/_, _^_, _≤_, _<_}
-use mathlib.Core.Path.{_≡_, refl, ap}
+use mathlib.Core.Path.{_≡_, refl, ap, _∙_}
 use mathlib.Core.Bool.{Bool, true, false, cond}
 use mathlib.Core.List.{List, [], _∷_, _++_}
 use native.Mathlib.Omega.{arith}
 use native.Mathlib.Nat.{pow-suc, pow-le-pow-right}
+use lib.Pow.{pow-add}
 use lib.ListN.{length, getD, take, drop, replicate, length-append, length-take, length-drop, take-append-drop}
 use lib.Seq.{take-at, drop-at}
 use lib.Dec.{ltb, leb}
@@ -51,6 +52,25 @@ value-bits (suc k) x h = go (leb (2 ^ k) x) refl (λ g. value-bits k x g) (value
     go true e p q = let h' = leb-true (2 ^ k) x e in rw (length-bits k (x - 2 ^ k), q (omega arith)) (omega arith)
     go false e p q = p (leb-false (2 ^ k) x e)
 
+-- bits one after the other
+pub value-append : (u v : List Bool) → value (u ++ v) ≡ value u * 2 ^ length v + value v
+unfolding value
+value-append [] v = omega arith
+value-append (true ∷ u) v =
+    let e : 2 ^ length (u ++ v) ≡ 2 ^ length u * 2 ^ length v = rw length-append (pow-add 2 (length u) (length v)) in
+    let r = value-append u v in
+    rw (e, r) (sum-out (2 ^ length u) (2 ^ length v) (value u) (value v))
+  where
+    sum-out : (a b c d : ℕ) → a * b + (c * b + d) ≡ (a + c) * b + d
+    sum-out a b c d = omega arith
+value-append (false ∷ u) v = value-append u v
+
+-- one bit more: Horner's rule
+pub value-more : (bs : List Bool) (b : Bool) → value (bs ++ (b ∷ [])) ≡ 2 * value bs + cond b 1 0
+unfolding value
+value-more bs true = value-append bs (true ∷ []) ∙ omega arith
+value-more bs false = value-append bs (false ∷ []) ∙ omega arith
+
 -- a number that its code can hold
 pub record Small (s : Symbol) : Type 0 where
   pub fits : (e : ℕ) → s ≡ Symbol.index e → e < 4096
@@ -89,6 +109,11 @@ pub length-unpack : (xs : List ℕ) → length (unpack xs) ≡ 8 * length xs
 unfolding unpack
 length-unpack [] = refl
 length-unpack (x ∷ xs) = simp length-append (omega (arith, length-bits 8 x, length-unpack xs))
+
+pub length-pack : (k : ℕ) (bs : List Bool) → length (pack k bs) ≡ k
+unfolding pack
+length-pack zero bs = refl
+length-pack (suc k) bs = ap suc (length-pack k (drop 8 bs))
 
 pub pack-unpack : (xs : List ℕ) → Bytes xs → pack (length xs) (unpack xs) ≡ xs
 unfolding unpack pack Bytes

@@ -5,7 +5,7 @@ use mathlib.Core.Bool.{Bool, true, false, cond}
 use mathlib.Core.List.{List, [], _∷_, _++_}
 use native.Mathlib.Omega.{arith}
 use native.Mathlib.Nat.{pow-suc, pow-le-pow-right, div-eq-of-lt, div-eq-of-lt-le, add-mul-div-left}
-use lib.ListN.{length, getD, take, drop, length-append, length-drop}
+use lib.ListN.{length, getD, take, drop, length-drop}
 use lib.Seq.{drop-at, drop-append-le, drop-drop, take-length, drop-cons, take-add, length-take-le}
 use lib.Dec.{eqb, ltb, leb}
 use borrow.Author.Tests.{lt-ltb, leb-true, leb-false, le-leb, lt-leb, le-ltb}
@@ -13,7 +13,7 @@ use lib.Pow.{pow-add, pow-pos, shl-exact}
 use Rattle.rules.specs.Walk.{Symbol}
 use Rattle.rules.specs.Stream.{bitsOf, value, unpack, Taken, takeIndex}
 use Rattle.rules.specs.Session.{begins}
-use Rattle.rules.proofs.Codes.{length-bits, value-lt}
+use Rattle.rules.proofs.Codes.{value-more, length-bits, value-lt}
 
 -- the bits of a number, first bit first
 pub bits-one : (k x : ℕ) → 2 ^ k ≤ x → bitsOf (suc k) x ≡ true ∷ bitsOf k (x - 2 ^ k)
@@ -92,16 +92,6 @@ module _ (page : List ℕ) (at : ℕ) (within : at < length page) where
 
   pub page-over : drop 8 (unpack (drop at page)) ≡ unpack (drop (suc at) page)
   page-over = rw page-byte (drop-at (bitsOf 8 (getD page at 0)) (unpack (drop (suc at) page)) 8 (length-bits 8 (getD page at 0)))
-
--- one bit more: Horner's rule
-value-more : (bs : List Bool) (b : Bool) → value (bs ++ (b ∷ [])) ≡ 2 * value bs + cond b 1 0
-unfolding value
-value-more [] true = refl
-value-more [] false = refl
-value-more (true ∷ bs) b =
-    let e : length (bs ++ (b ∷ [])) ≡ suc (length bs) = simp length-append (omega arith) in
-    rw (e, value-more bs b) (omega (arith, pow-suc 2 (length bs)))
-value-more (false ∷ bs) b = value-more bs b
 
 -- i bits of bs were taken, v is the number that they write, and l are left
 pub record Taking (bs l : List Bool) (i v : ℕ) : Type 0 where

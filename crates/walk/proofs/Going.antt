@@ -46,7 +46,7 @@ module _ (w : Walk) (s : Shape w) where
   unfolding bound
   bound-next i = refl
 
-  lowest-here : (j b : ℕ) → Turn w j b → (k i : ℕ) → k + i ≡ suc (w .dim) → i ≤ j → lowestFrom k i (bound w i) (w .positions) ≡ j
+  pub lowest-here : (j b : ℕ) → Turn w j b → (k i : ℕ) → k + i ≡ suc (w .dim) → i ≤ j → lowestFrom k i (bound w i) (w .positions) ≡ j
   unfolding lowestFrom
   lowest-here j b t zero i e h = absurd (omega (arith, t .next .ranked))
   lowest-here j b t (suc k) i e h = go (λ l. lowest-here j b t k (suc i) (omega arith) l) (ℕ-discrete i j)
@@ -59,7 +59,7 @@ module _ (w : Walk) (s : Shape w) where
           let l : bound w i ≤ getD (w .positions) i 0 = unfold gone in omega (arith, t .lower i (omega arith), bound-le-count w s i (omega (arith, t .next .ranked))) in
           rw (lowestFrom, le-ltb (getD (w .positions) i 0) (bound w i) l, ← bound-next i) (rec (omega arith))
 
-  lowest-none : head w ≡ Head.none → (k i : ℕ) → k + i ≡ suc (w .dim) → lowestFrom k i (bound w i) (w .positions) ≡ suc (w .dim)
+  pub lowest-none : head w ≡ Head.none → (k i : ℕ) → k + i ≡ suc (w .dim) → lowestFrom k i (bound w i) (w .positions) ≡ suc (w .dim)
   unfolding lowestFrom
   lowest-none o zero i e = omega arith
   lowest-none o (suc k) i e =

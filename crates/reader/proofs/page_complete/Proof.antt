@@ -1,5 +1,4 @@
 -- `reader::page_complete` meets its contract: no byte, or 18. Assumes nothing.
-use native.Mathlib.Omega.{arith}
 use borrow.Author.Needs.{needs}
 use Rattle.reader.proofs.Laws.{complete-none, complete-more}
 use Rattle.reader.proofs.page_complete.Statement.{statement}
