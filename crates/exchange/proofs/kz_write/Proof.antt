@@ -1,0 +1,26 @@
+use mathlib.Core.Path.{_≡_, refl, ap, sym, _∙_}
+use Rattle.exchange.specs.Stored.{writeNumbers}
+use Rattle.rules.specs.declared.WriteAnswer.{WriteAnswer}
+use borrow.Author.Needs.{needs}
+use Rattle.exchange.proofs.kz_write.Statement.{statement}
+use Rattle.exchange.proofs.kz_write.Tie as tie
+use Rattle.exchange.proofs.kz_write.Reads as reads
+use Rattle.exchange.proofs.kz_write.Lts as lts
+use Rattle.writer.proofs.write.Reads as write-reads
+
+write-requires : tie.Need-write-requires
+write-requires c κs = search needs
+
+same-length : tie.Need-same-length
+same-length c = search needs
+
+same-length-2 : tie.Need-same-length-2
+same-length-2 c = search needs
+
+returns : tie.Need-returns
+returns c =
+    let e = c .before .before .before .before .before .write .ensures in
+    (ap (λ (a : WriteAnswer). a .number) (e .0), ap writeNumbers (e .0), e .1, e .2)
+
+pub kz-write-spec : {M : Type 1} → statement M
+kz-write-spec = tie.close (tie.spec write-requires same-length same-length-2 returns)

@@ -1,0 +1,53 @@
+use mathlib.Core.Path.{_≡_, sym, _∙_}
+use lib.ListN.{length, length-map}
+use borrow.Author.Needs.{needs}
+use Rattle.exchange.proofs.Laws.{reported-by}
+use Rattle.exchange.proofs.report_numbers.Statement.{statement}
+use Rattle.exchange.proofs.report_numbers.Tie as tie
+use Rattle.exchange.proofs.report_numbers.Reads as reads
+use Rattle.exchange.proofs.report_numbers.Lts as lts
+use Rattle.exchange.proofs.flag.Reads as flag-reads
+
+array-read-t5 : tie.Need-array-read-t5
+array-read-t5 c = search needs
+
+array-read-t8 : tie.Need-array-read-t8
+array-read-t8 c = search needs
+
+array-read-t11 : tie.Need-array-read-t11
+array-read-t11 c = search needs
+
+array-read-t14 : tie.Need-array-read-t14
+array-read-t14 c = search needs
+
+array-read-t17 : tie.Need-array-read-t17
+array-read-t17 c = search needs
+
+array-read-t20 : tie.Need-array-read-t20
+array-read-t20 c = search needs
+
+array-read-t23 : tie.Need-array-read-t23
+array-read-t23 c = search needs
+
+flag-requires : tie.Need-flag-requires
+flag-requires c κs = search needs
+
+returns : tie.Need-returns
+returns c =
+    let a = c .before .before in
+    let e : length (a .args .a .cells) ≡ 7 = sym (length-map (a .args .a .cells) (λ v. v)) ∙ a .good .0 .1 .1 .1 .1 .0 .1 .0 .1 in
+    reported-by (a .args .a) e _ (c .flag .ensures)
+
+pub report-numbers-spec : {M : Type 1} → statement M
+report-numbers-spec =
+    tie.close
+    (tie.spec
+    array-read-t5
+    array-read-t8
+    array-read-t11
+    array-read-t14
+    array-read-t17
+    array-read-t20
+    array-read-t23
+    flag-requires
+    returns)

@@ -1,0 +1,88 @@
+use mathlib.Core.Path.{_≡_, sym, _∙_}
+use lib.ListN.{length, length-map}
+use borrow.Author.Needs.{needs}
+use Rattle.exchange.proofs.Laws.{stored-by}
+use Rattle.exchange.proofs.stored_session.Statement.{statement}
+use Rattle.exchange.proofs.stored_session.Tie as tie
+use Rattle.exchange.proofs.stored_session.Reads as reads
+use Rattle.exchange.proofs.stored_session.Lts as lts
+use Rattle.exchange.proofs.refusal_number.Reads as refusal-number-reads
+use Rattle.exchange.proofs.refusal_place.Reads as refusal-place-reads
+use Rattle.exchange.proofs.state_number.Reads as state-number-reads
+use Rattle.exchange.proofs.stored_positions.Reads as stored-positions-reads
+
+stored-positions-requires : tie.Need-stored-positions-requires
+stored-positions-requires c κs = search needs
+
+state-number-requires : tie.Need-state-number-requires
+state-number-requires c κs = search needs
+
+refusal-number-requires : tie.Need-refusal-number-requires
+refusal-number-requires c κs = search needs
+
+refusal-place-requires : tie.Need-refusal-place-requires
+refusal-place-requires c κs = search needs
+
+cast-t9 : tie.Need-cast-t9
+cast-t9 c = search needs
+
+cast-t10 : tie.Need-cast-t10
+cast-t10 c = search needs
+
+cast-t11 : tie.Need-cast-t11
+cast-t11 c = search needs
+
+array-read-t14 : tie.Need-array-read-t14
+array-read-t14 c = search needs
+
+array-read-t17 : tie.Need-array-read-t17
+array-read-t17 c = search needs
+
+array-read-t20 : tie.Need-array-read-t20
+array-read-t20 c = search needs
+
+array-read-t23 : tie.Need-array-read-t23
+array-read-t23 c = search needs
+
+array-read-t26 : tie.Need-array-read-t26
+array-read-t26 c = search needs
+
+array-read-t29 : tie.Need-array-read-t29
+array-read-t29 c = search needs
+
+array-read-t32 : tie.Need-array-read-t32
+array-read-t32 c = search needs
+
+cast-t33 : tie.Need-cast-t33
+cast-t33 c = search needs
+
+cast-t34 : tie.Need-cast-t34
+cast-t34 c = search needs
+
+returns : tie.Need-returns
+returns c =
+    let a = c .before .before .before .before .before .before .before .before .before .before in
+    let e : length (a .args .s .positions) ≡ 7 = sym (length-map (a .args .s .positions) (λ v. v)) ∙ a .good .0 .1 .1 .1 .1 .1 .1 .0 .1 .0 .1 in
+    stored-by (a .args .s) e _ (c .before .before .before .before .before .before .before .before .stored-positions .ensures) _ _ _ (c .before .before .before .before .before .before .before .state-number .ensures) (c .before .before .before .before .before .before .refusal-number .ensures) (c .before .before .before .before .before .refusal-place .ensures)
+
+pub stored-session-spec : {M : Type 1} → statement M
+stored-session-spec =
+    tie.close
+    (tie.spec
+    stored-positions-requires
+    state-number-requires
+    refusal-number-requires
+    refusal-place-requires
+    cast-t9
+    cast-t10
+    cast-t11
+    array-read-t14
+    array-read-t17
+    array-read-t20
+    array-read-t23
+    array-read-t26
+    array-read-t29
+    array-read-t32
+    cast-t33
+    cast-t34
+    returns)

@@ -1,0 +1,192 @@
+/*
+ * kanzhulet.h: the surface for C of a proved library for generalised maps.
+ *
+ * A map of dimension N (1 to 6) has n darts (1 to 4,096), 0 to n-1, and N+1 links a0..aN for each dart. Its tables are 16-bit
+ * numbers: ai(d) stands at position i*n + d. ai(d) = d says that dart d is free at rank i. In tables that are being read,
+ * KZ_NO_LINK says "no link yet".
+ *
+ *   kz_check    are these posted tables a valid connected map? numbers the darts from a root
+ *   kz_write    any page of a map's stream, from any root
+ *   kz_read     tables from one whole stream
+ *   kz_open, kz_page, kz_close      the same, fed page by page through a session
+ *   kz_report   cells of each rank, free links, orientable or not
+ *
+ * Every call takes all values of its numbers and all contents of its rooms, ends, allocates nothing and keeps nothing between
+ * calls. It returns the refusal number, 0 for an accepted call, and stores the whole answer in `answer`. What each call stores is
+ * proved for every input; docs/PROMISES.md of the library says by which law.
+ *
+ * What the caller guarantees, since no proof can see across the call:
+ *   - each pointer is not null, is aligned for its type and points to as many elements as its length says (to one element at
+ *     least where the length is 0: nothing is read or written through it then), or as the array's size says;
+ *   - a room that the call may write (work, out, record, answer, and the tables of a reading) overlaps no other argument, and no
+ *     other thread touches it during the call; a room that the call only reads is not written during the call.
+ *
+ * Link with the archive that `rt staticlib exchange` writes. It is for x86-64 Linux and needs no other library.
+ */
+#ifndef KANZHULET_H
+#define KANZHULET_H
+
+#include <stddef.h>
+#include <stdint.h>
+
+#ifdef __cplusplus
+extern "C" {
+#endif
+
+/* The limits, and the rooms that are long enough for every map. */
+enum {
+    KZ_MAX_DIM = 6,
+    KZ_MAX_DARTS = 4096,
+    KZ_MAX_TABLES = 28672, /* entries: (N+1)*n at most */
+    KZ_MAX_WORK = 8192,    /* entries: 2n at most */
+    KZ_MAX_STREAM = 50178, /* bytes: no stream is longer */
+    KZ_NO_LINK = 65535
+};
+
+/* Numbers in an answer or a record. */
+enum {
+    KZ_CHECK_ANSWER = 2,
+    KZ_WRITE_ANSWER = 4,
+    KZ_READ_ANSWER = 5,
+    KZ_REPORT_ANSWER = 11,
+    KZ_RECORD = 15
+};
+
+/*
+ * Refusal numbers. Of several faults the call answers the first in the order that its section below states.
+ *
+ *   number                 when                                              place
+ */
+enum {
+    KZ_ACCEPTED = 0,      /* accepted, or a page after which the session waits  0 */
+    KZ_DIMENSION = 1,     /* N is not 1 to 6                                    0 */
+    KZ_DARTS = 2,         /* n is not 1 to 4,096                                0 */
+    KZ_SHORT_TABLES = 3,  /* tables shorter than (N+1)*n                        0 */
+    KZ_SHORT_WORK = 4,    /* work room shorter than 2n                          0 */
+    KZ_ROOT = 5,          /* root not below n                                   0 */
+    KZ_ENTRY = 6,         /* an entry not below n                               its position in the tables, the first such */
+    KZ_INVERSE = 7,       /* ai(ai(d)) is not d                                 the position of ai(d), the first such */
+    KZ_MANIFOLD = 8,      /* ai, aj, ai, aj does not lead back (i+2 <= j)       the dart, first by pair, then dart */
+    KZ_NOT_REACHED = 9,   /* a dart not reached from the root                   the least such dart */
+    KZ_PAST_END = 10,     /* page start past the stream's end                   the stream's length */
+    KZ_CUT = 11,          /* the stream ended early                             steps done */
+    KZ_INDEX = 12,        /* a named dart is not allowed there                  steps done */
+    KZ_TOO_MANY = 13,     /* a new dart when n are numbered                     steps done */
+    KZ_TAKEN = 14,        /* a deduced partner has a link already               steps done */
+    KZ_TOO_FEW = 15,      /* the walk ended with fewer than n darts             steps done */
+    KZ_BUILT = 16,        /* the map that was built breaks the condition of 8   steps done */
+    KZ_FILL = 17,         /* a fill bit of the last byte is set                 steps done */
+    KZ_BYTE_AFTER = 18,   /* a byte after the end                               steps done */
+    KZ_UNFIT = 19,        /* the record is no session that can go on            0 */
+    KZ_CLOSED = 20        /* the session is closed                              0 */
+};
+
+/*
+ * The check of posted tables, from a root.
+ *
+ * answer: number, place. Order of tests: 1 to 9, each over the whole tables before the next.
+ * tables: at least (N+1)*n entries; what is past them is not read. Never written.
+ * work:   at least 2n entries; what is past them is neither read nor written.
+ *   0        the first n hold each dart's walk number, the next n the dart of each walk number
+ *   1 to 8   unchanged
+ *   9        the first 2n are KZ_NO_LINK
+ */
+uint32_t kz_check(uint64_t dim, uint64_t darts, uint64_t root,
+                  const uint16_t *tables, size_t tables_length,
+                  uint16_t *work, size_t work_length,
+                  uint32_t answer[KZ_CHECK_ANSWER]);
+
+/*
+ * The paged writer: the bytes of the map's stream from byte `start` on, as many as `out` holds or the stream has.
+ *
+ * answer: number, place, bytes written, the stream's length. On a refusal the last two are 0.
+ * Order of tests: 1 to 9 as kz_check, then 10. A start equal to the length is accepted and writes nothing.
+ * tables and work: as for kz_check; after 10 the work room is as after 0.
+ * out:    any length.
+ *   0        its first `written` bytes are the stream's from `start` on; the rest is unchanged
+ *   else     unchanged
+ * The pages of a stream: start at 0, and each next where the last ended, until start + written is the length.
+ */
+uint32_t kz_write(uint64_t dim, uint64_t darts, uint64_t root, uint64_t start,
+                  const uint16_t *tables, size_t tables_length,
+                  uint16_t *work, size_t work_length,
+                  uint8_t *out, size_t out_length,
+                  uint32_t answer[KZ_WRITE_ANSWER]);
+
+/*
+ * One whole read: accepts exactly the streams that some valid connected map within the limits has from some root, and builds that
+ * map under its walk numbering.
+ *
+ * answer: number, place, steps done, N, n. On a refusal steps is the place, N and n are 0.
+ * Order of tests: 1 and 3 once both header bytes are there; then 11 to 14 by step; at the end 15, 16, 17, 18.
+ * tables: any length; 3 if it is less than the (N+1)*n of the stream's header. What is past (N+1)*n is not written.
+ *   0        the first (N+1)*n are the map's
+ *   1, 3, and 11 before both header bytes are there    unchanged
+ *   11 after that, and 12 to 18                        the first (N+1)*n are KZ_NO_LINK
+ */
+uint32_t kz_read(const uint8_t *bytes, size_t bytes_length,
+                 uint16_t *tables, size_t tables_length,
+                 uint32_t answer[KZ_READ_ANSWER]);
+
+/*
+ * A session reads one stream by pages of any sizes, none of them kept by the library. The caller lends the same record and the
+ * same tables to each call and writes neither in between: open, any number of pages, close.
+ *
+ * The record is fifteen numbers:
+ *   [0]  state: 0 header, 1 running, 2 complete, 3 closed, 4 refused
+ *   [1]  the refusal's number if refused, else 0       [2]  its place if refused, else 0
+ *   [3]  N        [4]  n        [5]  darts numbered so far
+ *   [6] to [12]  how many darts have left each of the seven queues
+ *   [13]  how many bits wait for the rest of a symbol (13 at most)       [14]  the number they write, first bit highest
+ * It has no pointers and may be stored and carried on later, by another process too, together with the tables.
+ */
+void kz_open(uint32_t record[KZ_RECORD]);
+
+/*
+ * A page of a stream. Every step is done that needs no bit beyond those seen.
+ *
+ * answer: number, place, steps done so far, N, n; 0 also where the session waits for more. N and n are 0 until a header is
+ * accepted, and on a refusal, where steps is the place.
+ * Order of tests: 19, 20, then as kz_read but for 11. A refused session repeats its refusal.
+ * tables: as for kz_read; unchanged by 19, 20 and a repeated refusal. A header that is accepted fills the first (N+1)*n with
+ *         KZ_NO_LINK, then links are set.
+ * record: after 19, 20 and a repeated refusal as given; after any other refusal state 4 with number and place, all else 0.
+ * 19 is answered for every record that no session stands for (another state, a number above 65,535 in [3] to [14], a number or
+ * place where the state is not 4) and for every session that is not fit: numbers out of range, or tables that are too short or do
+ * not go with the record.
+ */
+uint32_t kz_page(uint32_t record[KZ_RECORD],
+                 const uint8_t *bytes, size_t bytes_length,
+                 uint16_t *tables, size_t tables_length,
+                 uint32_t answer[KZ_READ_ANSWER]);
+
+/*
+ * The end of a session's stream.
+ *
+ * answer: as for kz_page. 0: the whole stream was read, and answer, tables and steps are those of one kz_read of its bytes; the
+ * state becomes closed. 11: the stream is cut. Later calls answer 20, or repeat the refusal.
+ * tables: after 11 with a header accepted the first (N+1)*n are KZ_NO_LINK; else unchanged.
+ */
+uint32_t kz_close(uint32_t record[KZ_RECORD],
+                  uint16_t *tables, size_t tables_length,
+                  uint32_t answer[KZ_READ_ANSWER]);
+
+/*
+ * The cell report of a map.
+ *
+ * answer: number, place, the number of i-cells for i = 0 to 6 (0 past N), the number of free (rank, dart) pairs, and 1 if the map
+ * is orientable, that is if the darts can be put in two classes so that every ai takes each dart to the other class (so a map with
+ * a free dart is not). On a refusal all but number and place are 0.
+ * Order of tests: 1 to 4 and 6 to 9 as kz_check with root 0.
+ * tables and work: as for kz_check; but after 0 the first 2n of the work room are KZ_NO_LINK.
+ */
+uint32_t kz_report(uint64_t dim, uint64_t darts,
+                   const uint16_t *tables, size_t tables_length,
+                   uint16_t *work, size_t work_length,
+                   uint32_t answer[KZ_REPORT_ANSWER]);
+
+#ifdef __cplusplus
+}
+#endif
+
+#endif
