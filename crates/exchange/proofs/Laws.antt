@@ -45,6 +45,11 @@ pub seven : (p : List ℕ) → length p ≡ 7 → (getD p 0 0 ∷ getD p 1 0 ∷
 unfolding entries
 seven p e = entries-of 7 p e
 
+-- so are fifteen
+pub fifteen : (p : List ℕ) → length p ≡ 15 → (getD p 0 0 ∷ getD p 1 0 ∷ getD p 2 0 ∷ getD p 3 0 ∷ getD p 4 0 ∷ getD p 5 0 ∷ getD p 6 0 ∷ getD p 7 0 ∷ getD p 8 0 ∷ getD p 9 0 ∷ getD p 10 0 ∷ getD p 11 0 ∷ getD p 12 0 ∷ getD p 13 0 ∷ getD p 14 0 ∷ []) ≡ p
+unfolding entries
+fifteen p e = entries-of 15 p e
+
 -- seven entries in front of a list
 pub seven-and : (p q : List ℕ) → length p ≡ 7 → (getD p 0 0 ∷ getD p 1 0 ∷ getD p 2 0 ∷ getD p 3 0 ∷ getD p 4 0 ∷ getD p 5 0 ∷ getD p 6 0 ∷ q) ≡ p ++ q
 seven-and p q e = ap (λ l. l ++ q) (seven p e)

@@ -6,7 +6,7 @@ use mathlib.Core.Bool.{Bool, true, false, not, Bool·not-not}
 use mathlib.Core.List.{List, [], _∷_, _++_}
 use native.Mathlib.Omega.{arith}
 use native.Mathlib.Numerals.{add-one}
-use lib.Pow.{pow-add, pow-pos, shl-exact, low}
+use lib.Pow.{pow-pos, shl-exact, low}
 use lib.ListN.{length, getD, take, drop, length-append, length-drop, take-append-drop, drop-of-length-le}
 use lib.Seq.{drop-nil, take-at, drop-append-le, drop-cons}
 use lib.Dec.{eqb, ltb}
@@ -14,7 +14,7 @@ use borrow.Author.Tests.{ltb-true, ltb-false, eq-eqb, ne-eqb}
 use Rattle.symbols.specs.declared.Cursor.{Cursor}
 use Rattle.rules.specs.Lists.{sum}
 use Rattle.rules.specs.Stream.{bitsOf, value, unpack}
-use Rattle.rules.proofs.Codes.{length-bits, value-lt, value-bits, length-unpack}
+use Rattle.rules.proofs.Codes.{length-bits, value-lt, value-append, value-bits, length-unpack}
 use Rattle.symbols.specs.Cursors.{atHand, CursorFits}
 
 pub sum-on : (l : List ℕ) (i : ℕ) → i < length l → sum (drop i l) ≡ getD l i 0 + sum (drop (i + 1) l)
@@ -24,15 +24,6 @@ sum-on l i h = rw (add-one, drop-cons l i 0)
 pub sum-over : (l : List ℕ) (i : ℕ) → length l ≤ i → sum (drop i l) ≡ 0
 unfolding sum
 sum-over l i h = rw (drop-of-length-le l h)
-
-value-append : (p q : List Bool) → value (p ++ q) ≡ value p * 2 ^ length q + value q
-unfolding value
-value-append [] q = omega arith
-value-append (true ∷ p) q =
-    let l : length (p ++ q) ≡ length p + length q = simp length-append in
-    let e : 2 ^ length (p ++ q) ≡ 2 ^ length p * 2 ^ length q = rw l (pow-add 2 (length p) (length q)) in
-    omega (arith, e, value-append p q)
-value-append (false ∷ p) q = value-append p q
 
 -- the low bits of a number
 low-bits : (b j k x : ℕ) → k ≡ b + j → x < 2 ^ k → value (drop b (bitsOf k x)) ≡ x % 2 ^ j

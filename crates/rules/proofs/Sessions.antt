@@ -353,7 +353,7 @@ close-past s t seven l = go (called s t seven)
 
 -- readings from open
 
-reading-fits : (bytes t : List ℕ) → Fits (readingOf (unpack bytes) t)
+pub reading-fits : (bytes t : List ℕ) → Fits (readingOf (unpack bytes) t)
 reading-fits bytes t = comes-fits (unpack bytes) t (readingOf (unpack bytes) t) (whole-bytes bytes) (comes (unpack bytes) t)
 
 -- the record and the tables for the bytes so far are fit
