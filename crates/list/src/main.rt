@@ -1,0 +1,64 @@
+// The listing program: reads one stream from standard input by pages through a session and prints the map, or the refusal. Nothing is printed before the
+// close answer is known.
+use libc::STDIN_FILENO;
+use libc::STDOUT_FILENO;
+use rules::ReadAnswer;
+use rules::Session;
+
+// A session after a page, and whether the input goes on.
+pub struct Fed {
+    pub session: Session,
+    pub more: bool,
+}
+
+// One page of the input. A read that fails counts as the input's end.
+fn feed(s: Session, tables: &mut [u16]) -> Fed {
+    let mut page = io::buffer();
+    let got = libc::read(STDIN_FILENO, &mut page);
+    let n = io::count(got, &page);
+    if n == 0 {
+        return Fed {
+            session: s,
+            more: false,
+        };
+    }
+    let p = reader::page(s, &page[..n], tables);
+    let session = p.session;
+    Fed {
+        session,
+        more: true,
+    }
+}
+
+// Every page of the input; no input has 2^64 pages.
+fn feed_all(s: Session, tables: &mut [u16]) -> Session {
+    let mut session = s;
+    let mut turns = u64::MAX;
+    while turns > 0 {
+        let f = feed(session, tables);
+        session = f.session;
+        let more = f.more;
+        if !more {
+            return session;
+        }
+        turns -= 1;
+    }
+    session
+}
+
+// The listing, as one text.
+fn print(a: ReadAnswer, tables: &[u16]) {
+    let mut work = [0u16; 8192];
+    let mut out = [0u8; 688392];
+    let r = report::report(a.dim as usize, a.darts as usize, tables, &mut work);
+    let n = text::listing(&mut out, a, r, tables);
+    io::write_all(STDOUT_FILENO, &out[..n]);
+}
+
+fn main() {
+    let mut tables = [0u16; 28672];
+    let session = feed_all(Session::open(), &mut tables);
+    let p = reader::close(session, &mut tables);
+    let answer = p.answer;
+    print(answer, &tables);
+}

@@ -1,0 +1,42 @@
+use native.Mathlib.Omega.{arith}
+use Rattle.text.specs.Listing.{dartLine}
+use borrow.Author.Needs.{needs}
+use Rattle.text.proofs.Laws.{wrote-then}
+use Rattle.text.proofs.put_dart.Statement.{statement}
+use Rattle.text.proofs.put_dart.Tie as tie
+use Rattle.text.proofs.put_dart.Reads as reads
+use Rattle.text.proofs.put_dart.Lts as lts
+use Rattle.text.proofs.put.Reads as put-reads
+use Rattle.text.proofs.put_links.Reads as put-links-reads
+use Rattle.text.proofs.put_number.Reads as put-number-reads
+
+put-number-requires : tie.Need-put-number-requires
+put-number-requires c κs = search needs
+
+put-links-requires : tie.Need-put-links-requires
+put-links-requires c κs = search needs
+
+slice-aggregate-put : tie.Need-slice-aggregate-put
+slice-aggregate-put c = search needs
+
+put-requires : tie.Need-put-requires
+put-requires c κs = search needs
+
+same-length : tie.Need-same-length
+same-length c = search needs
+
+returns : tie.Need-returns
+unfolding dartLine
+returns c =
+    (wrote-then (c .before .before .before .before .before .before .before .before .before .before .before .put-number .ensures .0) (wrote-then (c .before .before .before .before .before .before .before .put-links .ensures .0) (c .before .before .put .ensures)), omega (arith, c .before .before .before .before .before .before .before .before .before .before .before .put-number .ensures .1, c .before .before .before .before .before .before .before .put-links .ensures .1, c .before .before .put .ensures .ends))
+
+pub put-dart-spec : {M : Type 1} → statement M
+put-dart-spec =
+    tie.close
+    (tie.spec
+    put-number-requires
+    put-links-requires
+    slice-aggregate-put
+    put-requires
+    same-length
+    returns)

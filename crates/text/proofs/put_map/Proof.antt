@@ -1,0 +1,79 @@
+use mathlib.Core.Path.{refl}
+use native.Mathlib.Omega.{arith}
+use Rattle.text.specs.Listing.{mapText, firstLine, freeLine, stepsLine}
+use borrow.Author.Needs.{needs}
+use Rattle.text.proofs.Laws.{wrote-then, wrote-same}
+use Rattle.text.proofs.put_map.Statement.{statement}
+use Rattle.text.proofs.put_map.Tie as tie
+use Rattle.text.proofs.put_map.Reads as reads
+use Rattle.text.proofs.put_map.Lts as lts
+use Rattle.text.proofs.put_cells.Reads as put-cells-reads
+use Rattle.text.proofs.put_darts.Reads as put-darts-reads
+use Rattle.text.proofs.put_line.Reads as put-line-reads
+use Rattle.text.proofs.put_pair.Reads as put-pair-reads
+use Rattle.text.proofs.wide.Reads as wide-reads
+
+slice-aggregate-put-pair : tie.Need-slice-aggregate-put-pair
+slice-aggregate-put-pair c = search needs
+
+slice-aggregate-put-pair-2 : tie.Need-slice-aggregate-put-pair-2
+slice-aggregate-put-pair-2 c = search needs
+
+put-pair-requires : tie.Need-put-pair-requires
+put-pair-requires c κs = search needs
+
+put-darts-requires : tie.Need-put-darts-requires
+put-darts-requires c κs = search needs
+
+put-cells-requires : tie.Need-put-cells-requires
+put-cells-requires c κs = search needs
+
+slice-aggregate-put-line : tie.Need-slice-aggregate-put-line
+slice-aggregate-put-line c = search needs
+
+wide-requires : tie.Need-wide-requires
+wide-requires c κs = search needs
+
+put-line-requires : tie.Need-put-line-requires
+put-line-requires c κs = search needs
+
+slice-aggregate-put-line-2 : tie.Need-slice-aggregate-put-line-2
+slice-aggregate-put-line-2 c = search needs
+
+wide-requires-2 : tie.Need-wide-requires-2
+wide-requires-2 c κs = search needs
+
+put-line-requires-2 : tie.Need-put-line-requires-2
+put-line-requires-2 c κs =
+    omega (arith, c .before .before .before .before .before .put-line .ensures .1, c .before .before .before .before .before .put-line .ensures .0 .room, c .before .before .before .before .before .before .before .before .before .before .before .put-cells .ensures .1, c .before .before .before .before .before .before .before .before .before .before .before .put-cells .ensures .0 .room, c .before .before .before .before .before .before .before .before .before .before .before .before .before .before .before .put-darts .ensures .1, c .before .before .before .before .before .before .before .before .before .before .before .before .before .before .before .put-darts .ensures .0 .room, c .before .before .before .before .before .before .before .before .before .before .before .before .before .before .before .before .before .before .before .put-pair .ensures .1, c .before .before .before .before .before .before .before .before .before .before .before .before .before .before .before .before .before .before .before .put-pair .ensures .0 .room, c .before .before .before .before .before .before .before .before .before .before .before .before .before .before .before .before .before .before .before .before .before .before .before .before .before .pre .0 .darts .1, c .before .before .before .before .before .before .before .before .before .before .before .before .before .before .before .before .before .before .before .before .before .before .before .before .before .pre .1)
+
+same-length : tie.Need-same-length
+same-length c = search needs
+
+returns : tie.Need-returns
+unfolding mapText firstLine freeLine stepsLine
+returns c =
+    let first = c .before .before .before .before .before .before .before .before .before .before .before .before .before .before .before .before .before .before .before .before .before .before .put-pair .ensures in
+    let lines = c .before .before .before .before .before .before .before .before .before .before .before .before .before .before .before .before .before .before .put-darts .ensures in
+    let counts = c .before .before .before .before .before .before .before .before .before .before .before .before .before .before .put-cells .ensures in
+    let pairs = c .before .before .before .before .before .before .before .before .put-line .ensures in
+    let steps = c .before .before .put-line2 .ensures in
+    (wrote-same (wrote-then (first .0) (wrote-then (lines .0) (wrote-then (counts .0) (wrote-then (pairs .0) (steps .0))))) (rw (c .before .before .before .before .before .before .before .before .before .wide .ensures, c .before .before .before .wide2 .ensures) refl), omega (arith, first .1, lines .1, counts .1, pairs .1, steps .1, c .before .before .before .before .before .before .before .before .before .before .before .before .before .before .before .before .before .before .before .before .before .before .before .before .before .before .before .before .pre .0 .darts .1))
+
+pub put-map-spec : {M : Type 1} → statement M
+put-map-spec =
+    tie.close
+    (tie.spec
+    slice-aggregate-put-pair
+    slice-aggregate-put-pair-2
+    put-pair-requires
+    put-darts-requires
+    put-cells-requires
+    slice-aggregate-put-line
+    wide-requires
+    put-line-requires
+    slice-aggregate-put-line-2
+    wide-requires-2
+    put-line-requires-2
+    same-length
+    returns)

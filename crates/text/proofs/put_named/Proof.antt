@@ -1,0 +1,24 @@
+use native.Mathlib.Omega.{arith}
+use borrow.Author.Needs.{needs}
+use Rattle.text.proofs.Laws.{wrote-then}
+use Rattle.text.proofs.put_named.Statement.{statement}
+use Rattle.text.proofs.put_named.Tie as tie
+use Rattle.text.proofs.put_named.Reads as reads
+use Rattle.text.proofs.put_named.Lts as lts
+use Rattle.text.proofs.put.Reads as put-reads
+use Rattle.text.proofs.put_spaced.Reads as put-spaced-reads
+
+put-requires : tie.Need-put-requires
+put-requires c κs = search needs
+
+put-spaced-requires : tie.Need-put-spaced-requires
+put-spaced-requires c κs = search needs
+
+same-length : tie.Need-same-length
+same-length c = search needs
+
+returns : tie.Need-returns
+returns c = (wrote-then (c .before .before .before .before .before .before .put .ensures) (c .before .before .put-spaced .ensures .0), omega (arith, c .before .before .before .before .before .before .put .ensures .ends, c .before .before .put-spaced .ensures .1))
+
+pub put-named-spec : {M : Type 1} → statement M
+put-named-spec = tie.close (tie.spec put-requires put-spaced-requires same-length returns)

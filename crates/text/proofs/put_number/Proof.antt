@@ -1,0 +1,47 @@
+use mathlib.Core.Path.{_∙_}
+use native.Mathlib.Omega.{arith}
+use borrow.Author.Needs.{needs}
+use Rattle.text.proofs.Laws.{wrote-same}
+use Rattle.text.proofs.Numerals.{few-digits, numeral-digits}
+use Rattle.text.proofs.put_number.Statement.{statement}
+use Rattle.text.proofs.put_number.Tie as tie
+use Rattle.text.proofs.put_number.Reads as reads
+use Rattle.text.proofs.put_number.Lts as lts
+use Rattle.io.proofs.decimal.Reads as decimal-reads
+use Rattle.text.proofs.put.Reads as put-reads
+
+decimal-requires : tie.Need-decimal-requires
+decimal-requires c κs = search needs
+
+array-share-prefix-digits : tie.Need-array-share-prefix-digits
+array-share-prefix-digits c = search needs
+
+slice-aggregate-put : tie.Need-slice-aggregate-put
+slice-aggregate-put c = search needs
+
+put-requires : tie.Need-put-requires
+put-requires c κs =
+    let e = c .before .before .decimal .ensures in
+    let k = few-digits (c .before .before .before .before .before .args .n) _ (omega arith) (e .1 .0) in
+    omega (arith, e .0 .1, k)
+
+same-length : tie.Need-same-length
+same-length c = search needs
+
+returns : tie.Need-returns
+returns c =
+    let e = c .before .before .before .before .before .decimal .ensures in
+    let a = c .before .before .before .before .before .before .before .before .args in
+    let k = few-digits (a .n) _ (omega arith) (e .1 .0) in
+    (wrote-same (c .before .before .put .ensures) (e .1 .1 ∙ numeral-digits (a .n) _ (e .1 .0) k), omega (arith, c .before .before .put .ensures .ends, e .0 .1, k))
+
+pub put-number-spec : {M : Type 1} → statement M
+put-number-spec =
+    tie.close
+    (tie.spec
+    decimal-requires
+    array-share-prefix-digits
+    slice-aggregate-put
+    put-requires
+    same-length
+    returns)

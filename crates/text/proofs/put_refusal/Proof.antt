@@ -1,0 +1,46 @@
+use mathlib.Core.Path.{refl}
+use Rattle.text.specs.Listing.{refusalLine}
+use borrow.Author.Needs.{needs}
+use Rattle.text.proofs.Laws.{wrote-same}
+use Rattle.text.proofs.put_refusal.Statement.{statement}
+use Rattle.text.proofs.put_refusal.Tie as tie
+use Rattle.text.proofs.put_refusal.Reads as reads
+use Rattle.text.proofs.put_refusal.Lts as lts
+use Rattle.text.proofs.put_pair.Reads as put-pair-reads
+use Rattle.text.proofs.wide.Reads as wide-reads
+
+slice-aggregate-put-pair : tie.Need-slice-aggregate-put-pair
+slice-aggregate-put-pair c = search needs
+
+wide-requires : tie.Need-wide-requires
+wide-requires c κs = search needs
+
+slice-aggregate-put-pair-2 : tie.Need-slice-aggregate-put-pair-2
+slice-aggregate-put-pair-2 c = search needs
+
+wide-requires-2 : tie.Need-wide-requires-2
+wide-requires-2 c κs = search needs
+
+put-pair-requires : tie.Need-put-pair-requires
+put-pair-requires c κs = search needs
+
+same-length : tie.Need-same-length
+same-length c = search needs
+
+returns : tie.Need-returns
+unfolding refusalLine
+returns c =
+    let w = c .before .before .put-pair .ensures in
+    (wrote-same (w .0) (rw (c .before .before .before .before .before .wide .ensures, c .before .before .before .wide2 .ensures) refl), w .1)
+
+pub put-refusal-spec : {M : Type 1} → statement M
+put-refusal-spec =
+    tie.close
+    (tie.spec
+    slice-aggregate-put-pair
+    wide-requires
+    slice-aggregate-put-pair-2
+    wide-requires-2
+    put-pair-requires
+    same-length
+    returns)

@@ -1,0 +1,30 @@
+use native.Mathlib.Omega.{arith}
+use Rattle.text.specs.Listing.{spaced}
+use borrow.Author.Needs.{needs}
+use Rattle.text.proofs.Laws.{wrote-then}
+use Rattle.text.proofs.put_spaced.Statement.{statement}
+use Rattle.text.proofs.put_spaced.Tie as tie
+use Rattle.text.proofs.put_spaced.Reads as reads
+use Rattle.text.proofs.put_spaced.Lts as lts
+use Rattle.text.proofs.put.Reads as put-reads
+use Rattle.text.proofs.put_number.Reads as put-number-reads
+
+slice-aggregate-put : tie.Need-slice-aggregate-put
+slice-aggregate-put c = search needs
+
+put-requires : tie.Need-put-requires
+put-requires c κs = search needs
+
+put-number-requires : tie.Need-put-number-requires
+put-number-requires c κs = search needs
+
+same-length : tie.Need-same-length
+same-length c = search needs
+
+returns : tie.Need-returns
+unfolding spaced
+returns c = (wrote-then (c .before .before .before .before .before .before .put .ensures) (c .before .before .put-number .ensures .0), omega (arith, c .before .before .before .before .before .before .put .ensures .ends, c .before .before .put-number .ensures .1))
+
+pub put-spaced-spec : {M : Type 1} → statement M
+put-spaced-spec =
+    tie.close (tie.spec slice-aggregate-put put-requires put-number-requires same-length returns)
