@@ -4,6 +4,8 @@ use libc::STDIN_FILENO;
 use libc::STDOUT_FILENO;
 use rules::ReadAnswer;
 use rules::Session;
+ghost use mathlib.Core.Path.{_≡_};
+ghost use lib.ListN.{length};
 
 // A session after a page, and whether the input goes on.
 pub struct Fed {
@@ -46,17 +48,38 @@ fn feed_all(s: Session, tables: &mut [u16]) -> Session {
     session
 }
 
+// Room for the tables of every map.
+fn tables_room() -> [u16; 28672]
+    ensures { λ r. ⌜ 28672 ≡ length r ⌝ }
+{
+    [0; 28672]
+}
+
+// Work room for every map.
+fn work_room() -> [u16; 8192]
+    ensures { λ r. ⌜ 8192 ≡ length r ⌝ }
+{
+    [0; 8192]
+}
+
+// Room for the longest text.
+fn text_room() -> [u8; 688392]
+    ensures { λ r. ⌜ 688392 ≡ length r ⌝ }
+{
+    [0; 688392]
+}
+
 // The listing, as one text.
 fn print(a: ReadAnswer, tables: &[u16]) {
-    let mut work = [0u16; 8192];
-    let mut out = [0u8; 688392];
+    let mut work = work_room();
+    let mut out = text_room();
     let r = report::report(a.dim as usize, a.darts as usize, tables, &mut work);
     let n = text::listing(&mut out, a, r, tables);
     io::write_all(STDOUT_FILENO, &out[..n]);
 }
 
 fn main() {
-    let mut tables = [0u16; 28672];
+    let mut tables = tables_room();
     let session = feed_all(Session::open(), &mut tables);
     let p = reader::close(session, &mut tables);
     let answer = p.answer;

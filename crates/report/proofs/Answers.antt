@@ -8,6 +8,7 @@ use native.Mathlib.Omega.{arith}
 use lib.ListN.{length, replicate, drop, length-append, length-drop}
 use lib.Seq.{drop-at}
 use Rattle.rules.specs.declared.CheckAnswer.{CheckAnswer}
+use Rattle.rules.specs.declared.ReportAnswer.{ReportAnswer}
 use Rattle.rules.specs.Map.{blank}
 use Rattle.rules.specs.Check.{Verdict, verdict, numbering, workAfter, checkAnswerOf, checkAnswer, checkWork}
 use Rattle.rules.specs.Report.{freePairs, orientable, cellCounts, reportAnswerOf, reportAnswer, reportWorkAfter, reportWork}
@@ -62,3 +63,12 @@ module _ (N n : ℕ) (t w w' : List ℕ) (r : CheckAnswer) (er : r ≡ checkAnsw
     pub report-blank : (u v : List ℕ) → v ≡ blank (2 * n) u → drop (2 * n) u ≡ drop (2 * n) w → v ≡ reportWork N n t w
     unfolding reportWork reportWorkAfter blank
     report-blank u v e p = e ∙ rw (accepted, p)
+
+-- a report with number 0 is of a map that passes every test
+pub reported : (N n : ℕ) (t w : List ℕ) (a : ReportAnswer) → a ≡ reportAnswer N n t w → a .number ≡ 0 → Passes N n 0 t (length w)
+unfolding reportAnswer reportAnswerOf
+reported N n t w a ea h = go (verdict N n 0 t (length w)) refl (sym (ap (λ (x : ReportAnswer). x .number) ea) ∙ h)
+  where
+    go : (v : Verdict) → verdict N n 0 t (length w) ≡ v → reportAnswerOf N n t v .number ≡ 0 → Passes N n 0 t (length w)
+    go Verdict.fine e z = fine-passes N n 0 t (length w) e
+    go (Verdict.refused nr p) e z = absurd (case-some (refused-case N n 0 t (length w) nr p e .0) z)

@@ -1,0 +1,68 @@
+-- `list::print` is safe: a report with number 0 is of tables within the limits, which the text needs. Assumes nothing.
+use native.Mathlib.Omega.{arith}
+use Rattle.report.proofs.Answers.{reported}
+use borrow.Author.Needs.{needs}
+use Rattle.list.proofs.print.Statement.{statement}
+use Rattle.list.proofs.print.Tie as tie
+use Rattle.list.proofs.print.Reads as reads
+use Rattle.list.proofs.print.Lts as lts
+use Rattle.io.proofs.write_all.Reads as write-all-reads
+use Rattle.list.proofs.text_room.Reads as text-room-reads
+use Rattle.list.proofs.work_room.Reads as work-room-reads
+use Rattle.report.proofs.report.Reads as report-reads
+use Rattle.text.proofs.listing.Reads as listing-reads
+
+work-room-requires : tie.Need-work-room-requires
+work-room-requires c κs = search needs
+
+text-room-requires : tie.Need-text-room-requires
+text-room-requires c κs = search needs
+
+cast-report : tie.Need-cast-report
+cast-report c = search needs
+
+cast-report-2 : tie.Need-cast-report-2
+cast-report-2 c = search needs
+
+slice-aggregate-report : tie.Need-slice-aggregate-report
+slice-aggregate-report c = search needs
+
+report-requires : tie.Need-report-requires
+report-requires c κs = search needs
+
+slice-aggregate-listing : tie.Need-slice-aggregate-listing
+slice-aggregate-listing c = search needs
+
+listing-requires : tie.Need-listing-requires
+listing-requires c κs =
+    let a = c .before .before .before .before .before .before .before .before .before .args in
+    (λ h. reported (a .a .dim) (a .a .darts) (a .tables .now) _ _ (c .before .before .report .ensures .0) h .limits, omega (arith, c .before .before .before .before .before .before .text-room .ensures))
+
+array-share-prefix-out : tie.Need-array-share-prefix-out
+array-share-prefix-out c = search needs
+
+slice-aggregate-write-all : tie.Need-slice-aggregate-write-all
+slice-aggregate-write-all c = search needs
+
+write-all-requires : tie.Need-write-all-requires
+write-all-requires c κs = search needs
+
+returns : tie.Need-returns
+returns c = search needs
+
+pub print-spec : {M : Type 1} → statement M
+print-spec =
+    tie.close
+    (tie.spec
+    work-room-requires
+    text-room-requires
+    cast-report
+    cast-report-2
+    slice-aggregate-report
+    report-requires
+    slice-aggregate-listing
+    listing-requires
+    array-share-prefix-out
+    slice-aggregate-write-all
+    write-all-requires
+    returns)
