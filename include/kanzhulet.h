@@ -16,8 +16,8 @@
  * proved for every input; docs/PROMISES.md of the library says by which law.
  *
  * What the caller guarantees, since no proof can see across the call:
- *   - each pointer is not null, is aligned for its type and points to as many elements as its length says (to one element at
- *     least where the length is 0: nothing is read or written through it then), or as the array's size says;
+ *   - each pointer is not null, is aligned for its type and points to as many elements as its length says, or as the array's size
+ *     says; with length 0 nothing is read or written through it;
  *   - a room that the call may write (work, out, record, answer, and the tables of a reading) overlaps no other argument, and no
  *     other thread touches it during the call; a room that the call only reads is not written during the call.
  *
@@ -163,9 +163,10 @@ uint32_t kz_page(uint32_t record[KZ_RECORD],
 /*
  * The end of a session's stream.
  *
- * answer: as for kz_page. 0: the whole stream was read, and answer, tables and steps are those of one kz_read of its bytes; the
- * state becomes closed. 11: the stream is cut. Later calls answer 20, or repeat the refusal.
- * tables: after 11 with a header accepted the first (N+1)*n are KZ_NO_LINK; else unchanged.
+ * answer: as for kz_page. Order of tests: 19, 20; a refused session repeats its refusal; 11 if the stream is cut; else 0, and the
+ * state becomes closed. For a session that began with kz_open, answer and tables are those of one kz_read of all the bytes given.
+ * tables: a first 11 with a header accepted puts KZ_NO_LINK in the first (N+1)*n; else unchanged.
+ * record: after 0 state 3, all else as it was; after a first 11 state 4 with number and place, all else 0; else as given.
  */
 uint32_t kz_close(uint32_t record[KZ_RECORD],
                   uint16_t *tables, size_t tables_length,

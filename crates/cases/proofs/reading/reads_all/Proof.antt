@@ -1,0 +1,60 @@
+-- `cases::reading::reads_all` is safe and ends. The measure is the sizes that are left. Assumes nothing.
+use Prim.Native.Nat.{_-_}
+use borrow.Author.Needs.{needs}
+use lib.ListN.{length}
+use mathlib.Core.Path.{_≡_}
+use Rattle.cases.proofs.reading.reads_all.Statement.{statement}
+use Rattle.cases.proofs.reading.reads_all.Tie as tie
+
+abbrev Inv-loop : tie.InvT-loop
+Inv-loop line stream tables₀ after k₀ tables k = length tables ≡ length tables₀
+
+abbrev μ-loop : tie.MeasureT-loop
+μ-loop line stream tables₀ after k₀ tables k = 5 - k
+
+loop-holds : tie.Need-loop-holds Inv-loop μ-loop
+loop-holds c = search needs
+
+size-at-requires : tie.Need-size-at-requires Inv-loop μ-loop
+size-at-requires c κs = search needs
+
+reads-requires : tie.Need-reads-requires Inv-loop μ-loop
+reads-requires c κs = search needs
+
+same-length : tie.Need-same-length Inv-loop μ-loop
+same-length c = search needs
+
+returns : tie.Need-returns Inv-loop μ-loop
+returns c = search needs
+
+add-k : tie.Need-add-k Inv-loop μ-loop
+add-k c = search needs
+
+loop-less : tie.Need-loop-less Inv-loop μ-loop
+loop-less c = search needs
+
+loop-again : tie.Need-loop-again Inv-loop μ-loop
+loop-again c = search needs
+
+same-length-2 : tie.Need-same-length-2 Inv-loop μ-loop
+same-length-2 c = search needs
+
+returns-2 : tie.Need-returns-2 Inv-loop μ-loop
+returns-2 c = search needs
+
+pub reads-all-spec : {M : Type 1} → statement M
+reads-all-spec =
+    tie.close
+    (tie.spec
+    Inv-loop
+    μ-loop
+    loop-holds
+    size-at-requires
+    reads-requires
+    same-length
+    returns
+    add-k
+    loop-less
+    loop-again
+    same-length-2
+    returns-2)

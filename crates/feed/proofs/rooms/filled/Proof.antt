@@ -1,0 +1,55 @@
+-- `feed::rooms::filled` is safe and ends. Assumes nothing.
+use Prim.Native.Nat.{_≤_, _-_}
+use borrow.Author.Needs.{needs}
+use lib.ListN.{length}
+use Rattle.feed.proofs.rooms.filled.Statement.{statement}
+use Rattle.feed.proofs.rooms.filled.Tie as tie
+
+abbrev Inv-loop : tie.InvT-loop
+Inv-loop room first step value₀ k₀ value k = k ≤ length room
+
+abbrev μ-loop : tie.MeasureT-loop
+μ-loop room first step value₀ k₀ value k = length room - k
+
+loop-holds : tie.Need-loop-holds Inv-loop μ-loop
+loop-holds c = search needs
+
+mul-if1 : tie.Need-mul-if1 Inv-loop μ-loop
+mul-if1 c = search needs
+
+shared-slice-read-if1 : tie.Need-shared-slice-read-if1 Inv-loop μ-loop
+shared-slice-read-if1 c = search needs
+
+returns : tie.Need-returns Inv-loop μ-loop
+returns c = search needs
+
+wrapping-add-u16-requires : tie.Need-wrapping-add-u16-requires Inv-loop μ-loop
+wrapping-add-u16-requires c κs = search needs
+
+add-k : tie.Need-add-k Inv-loop μ-loop
+add-k c = search needs
+
+loop-less : tie.Need-loop-less Inv-loop μ-loop
+loop-less c = search needs
+
+loop-again : tie.Need-loop-again Inv-loop μ-loop
+loop-again c = search needs
+
+returns-2 : tie.Need-returns-2 Inv-loop μ-loop
+returns-2 c = search needs
+
+pub filled-spec : {M : Type 1} → statement M
+filled-spec =
+    tie.close
+    (tie.spec
+    Inv-loop
+    μ-loop
+    loop-holds
+    mul-if1
+    shared-slice-read-if1
+    returns
+    wrapping-add-u16-requires
+    add-k
+    loop-less
+    loop-again
+    returns-2)

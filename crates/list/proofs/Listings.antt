@@ -1,0 +1,44 @@
+-- What the listing of a whole read is: the map's text where the stream is accepted, else the refusal's line. Rests on the rules' Sound and Check.
+use Prim.Native.Nat.{ℕ, _*_, _≤_, _<_}
+use mathlib.Core.Path.{_≡_, refl, ap, _∙_}
+use mathlib.Core.Logic.{_≢_}
+use mathlib.Core.List.{List}
+use lib.ListN.{length}
+use borrow.Author.Tests.{eq-eqb, ne-eqb}
+use Rattle.rules.specs.declared.ReadAnswer.{ReadAnswer}
+use Rattle.rules.specs.declared.ReportAnswer.{ReportAnswer}
+use Rattle.rules.specs.Check.{Verdict, verdict}
+use Rattle.rules.specs.Map.{Limits}
+use Rattle.rules.specs.Reading.{readAnswer, readTables}
+use Rattle.rules.specs.Report.{cellCounts, freePairs, reportAnswer, reportAnswerOf}
+use Rattle.rules.proofs.Check.{Passes, passes-fine}
+use Rattle.rules.proofs.Codes.{Bytes}
+use Rattle.rules.proofs.Sound.{Accepted, sound}
+use Rattle.text.specs.Listing.{refusalLine, mapText, textBy, listing}
+
+module _ (bytes t work : List ℕ) where
+  abbrev answer : ReadAnswer
+  answer = readAnswer bytes t
+
+  abbrev tables : List ℕ
+  tables = readTables bytes t
+
+  abbrev report : ReportAnswer
+  report = reportAnswer (answer .dim) (answer .darts) tables work
+
+  -- the check passes what a whole read accepts
+  fine : Bytes bytes → answer .number ≡ 0 → 2 * answer .darts ≤ length work → verdict (answer .dim) (answer .darts) 0 tables (length work) ≡ Verdict.fine
+  fine B e h =
+      let a = sound bytes t B e in
+      passes-fine _ _ _ _ _ (record { limits = record { dims = a .limits .dims; darts = a .limits .darts; room = a .room }; work = h; valid = a .valid; connected = a .connected })
+
+  -- an accepted stream lists its map, with the map's own cells and free pairs
+  pub lists-map : Bytes bytes → answer .number ≡ 0 → 2 * answer .darts ≤ length work
+      → listing answer report tables ≡ mapText (answer .dim) (answer .darts) (answer .steps) (cellCounts (answer .dim) (answer .darts) tables) (freePairs (answer .dim) (answer .darts) tables) tables
+  unfolding listing textBy reportAnswer reportAnswerOf
+  lists-map B e h = rw (fine B e h, eq-eqb (answer .number) 0 e) refl
+
+  -- a refused one only its refusal
+  pub lists-refusal : answer .number ≢ 0 → listing answer report tables ≡ refusalLine (answer .number) (answer .place)
+  unfolding listing textBy
+  lists-refusal h = rw (ne-eqb (answer .number) 0 h) refl

@@ -1,0 +1,862 @@
+/*
+ * Tests of the surface for C: every call of kanzhulet.h, every refusal number, rooms between guards. rooms.h checks what holds of every
+ * call; the cases here say which answer an input gets. The last line printed is "surface: N checks, 0 failed", and the exit status is 1
+ * if any check failed.
+ */
+#include "kanzhulet.h"
+#include "rooms.h"
+#include "maps.h"
+
+#define MOST (~(uint64_t)0)
+#define WIDE ((uint64_t)1 << 32) /* 0 for a call that would drop the upper half */
+
+/* Reading: the streams. */
+
+struct reading {
+    const char *name, *hex;
+    size_t room; /* entries of the tables lent */
+    uint32_t number, place, dim, darts;
+};
+
+static const struct reading readings[] = {
+    /* The examples of the requirements. */
+    { "P1", "10 00 A0", 2, 0, 0, 1, 1 },
+    { "P2", "10 01 50", 4, 0, 0, 1, 2 },
+    { "P3", "10 05 06 00 A0", 12, 0, 0, 1, 6 },
+    { "P4", "", 4, 11, 0, 0, 0 },
+    { "P5", "10 01", 4, 11, 0, 0, 0 },
+    { "P6", "70 00", 16, 1, 0, 0, 0 },
+    { "P7", "10 00 00", 2, 13, 0, 0, 0 },
+    { "P8", "10 01 A0", 4, 15, 2, 0, 0 },
+    { "P9", "10 01 C0 00", 4, 12, 0, 0, 0 },
+    { "P10", "20 02 A2 80", 9, 14, 8, 0, 0 },
+    { "P11", "30 07 45 41 80 3D 00", 32, 16, 32, 0, 0 },
+    { "P12", "10 00 A1", 2, 17, 2, 0, 0 },
+    { "P13", "10 00 A0 00", 2, 18, 2, 0, 0 },
+    /* Longer rooms: nothing is written past (N+1)n. */
+    { "P3, longer room", "10 05 06 00 A0", 30, 0, 0, 1, 6 },
+    { "P5, longer room", "10 01", 40, 11, 0, 0, 0 },
+    { "P11, longer room", "30 07 45 41 80 3D 00", 40, 16, 32, 0, 0 },
+    { "paper's figure 9", "20 0B 06 00 B4 06 01 74", 40, 0, 0, 2, 12 },
+    /* A room one entry short, seen as soon as both header bytes are there and not before. */
+    { "P5, short room", "10 01", 3, 3, 0, 0, 0 },
+    { "P3, no room", "10 05 06 00 A0", 0, 3, 0, 0, 0 },
+    { "half a header, no room", "10", 0, 11, 0, 0, 0 },
+    { "greatest header, short room", "6F FF", KZ_MAX_TABLES - 1, 3, 0, 0, 0 },
+    { "greatest header", "6F FF", KZ_MAX_TABLES, 11, 0, 0, 0 },
+    /* The dimension, not before the second byte and before the room. */
+    { "half a bad header", "70", 16, 11, 0, 0, 0 },
+    { "dimension 0", "00 00", 0, 1, 0, 0, 0 },
+    { "dimension 9", "90 01 A0", 8, 1, 0, 0, 0 },
+    { "dimension 15", "FF FF FF", 8, 1, 0, 0, 0 },
+    /* Every dimension's lone dart; with four ranks the last symbol ends on a byte border and there is no fill. */
+    { "lone dart in 2", "20 00 A8", 3, 0, 0, 2, 1 },
+    { "lone dart in 3", "30 00 AA", 4, 0, 0, 3, 1 },
+    { "lone dart in 4", "40 00 AA 80", 5, 0, 0, 4, 1 },
+    { "lone dart in 5", "50 00 AA A0", 6, 0, 0, 5, 1 },
+    { "lone dart in 6", "60 00 AA A8", 7, 0, 0, 6, 1 },
+    { "no fill, a byte after", "30 00 AA 00", 4, 18, 4, 0, 0 },
+    { "last fill bit", "60 00 AA A9", 7, 17, 7, 0, 0 },
+    /* A named dart: judged once its twelve bits are in; not the dart itself (P9), not one without number, not one that is linked. */
+    { "index not all there", "10 01 FF", 4, 11, 0, 0, 0 },
+    { "index without number", "10 02 60 0A", 6, 12, 2, 0, 0 },
+    { "index linked already", "10 03 18 00 00", 8, 12, 5, 0, 0 },
+    /* Disagreement with a larger i is found at the end, not at the step. */
+    { "smallest 16", "20 03 91 58 01 80", 12, 16, 12, 0, 0 },
+    /* Of several faults at the end the first of 15, 16, 17, 18; a byte after the end is 18 whatever it holds. */
+    { "15 before 17", "10 01 A1 00", 4, 15, 2, 0, 0 },
+    { "16 before 17", "30 07 45 41 80 3D 01", 32, 16, 32, 0, 0 },
+    { "17 before 18", "10 00 A1 00", 2, 17, 2, 0, 0 },
+    { "set bits after the end", "10 00 A0 FF", 2, 18, 2, 0, 0 },
+};
+
+enum { READINGS = sizeof readings / sizeof readings[0] };
+
+static unsigned digit(char c)
+{
+    return c <= '9' ? (unsigned)(c - '0') : (unsigned)(c - 'A' + 10);
+}
+
+/* The bytes that pairs of hex digits spell; how many. */
+static size_t spell(const char *hex, uint8_t *bytes)
+{
+    size_t length = 0;
+    for (; *hex != 0; hex += hex[2] == 0 ? 2 : 3)
+        bytes[length++] = (uint8_t)(digit(hex[0]) * 16 + digit(hex[1]));
+    return length;
+}
+
+static void lend_page(const uint8_t *bytes, size_t length)
+{
+    size_t k;
+    LEND(page, length);
+    for (k = 0; k < length; k++)
+        page[k] = bytes[k];
+}
+
+static void lend_page_of(const char *hex)
+{
+    uint8_t bytes[16];
+    lend_page(bytes, spell(hex, bytes));
+}
+
+/* What one whole read gave, for the sessions to be held against. */
+static uint32_t whole_answer[KZ_READ_ANSWER];
+static uint16_t whole_tables[TABLES];
+
+static void read_whole(const uint8_t *bytes, size_t length, size_t room)
+{
+    size_t k;
+    lend_page(bytes, length);
+    LEND(built, room);
+    call_read();
+    for (k = 0; k < KZ_READ_ANSWER; k++)
+        whole_answer[k] = answer[k];
+    for (k = 0; k < room; k++)
+        whole_tables[k] = built[k];
+}
+
+static void expect_as_whole(void)
+{
+    EXPECT_LAST(whole_answer[0], whole_answer[1]);
+    CHECK(same_numbers(answer, whole_answer, KZ_READ_ANSWER));
+    CHECK(same_entries(built, whole_tables, LENGTH(built)));
+}
+
+static void read_each_stream(void)
+{
+    uint8_t bytes[16];
+    size_t k;
+    for (k = 0; k < READINGS; k++) {
+        const struct reading *r = &readings[k];
+        begin(r->name);
+        read_whole(bytes, spell(r->hex, bytes), r->room);
+        EXPECT_LAST(r->number, r->place);
+        CHECK(answer[2] == (r->number == 0 ? (r->dim + 1) * r->darts : r->place));
+        CHECK(answer[3] == r->dim && answer[4] == r->darts);
+    }
+}
+
+static void expect_built(const char *hex, size_t entries, const uint16_t *tables)
+{
+    lend_page_of(hex);
+    LEND(built, entries);
+    EXPECT(call_read(), 0, 0);
+    CHECK(same_entries(built, tables, entries));
+}
+
+/* P3's tables tell a walk that goes back to queue 0 after a new dart from one that does not; its answer and cells do not. */
+static void read_known_tables(void)
+{
+    static const uint16_t p1[2] = { 0, 0 };
+    static const uint16_t p2[4] = { 1, 0, 0, 1 };
+    static const uint16_t p3[12] = { 1, 0, 3, 2, 5, 4, 2, 4, 0, 5, 1, 3 };
+    begin("tables of P1 to P3");
+    expect_built("10 00 A0", 2, p1);
+    expect_built("10 01 50", 4, p2);
+    expect_built("10 05 06 00 A0", 12, p3);
+}
+
+/* Reading: sessions. */
+
+static uint32_t away_record[KZ_RECORD];
+static uint16_t away_tables[TABLES];
+
+/* A session's fifteen numbers and its tables put away, another stream read in the same rooms, and both taken up again: nothing else
+   belongs to a session. */
+static void carry_elsewhere(void)
+{
+    size_t k, room = LENGTH(built);
+    for (k = 0; k < KZ_RECORD; k++)
+        away_record[k] = record[k];
+    for (k = 0; k < room; k++)
+        away_tables[k] = built[k];
+    call_open();
+    LEND(built, 4);
+    lend_page_of("10 01");
+    EXPECT(call_page(), 0, 0);
+    LEND(record, KZ_RECORD);
+    LEND(built, room);
+    for (k = 0; k < KZ_RECORD; k++)
+        record[k] = away_record[k];
+    for (k = 0; k < room; k++)
+        built[k] = away_tables[k];
+}
+
+/* A page that may be the last to be accepted: a refusal must be the whole read's. */
+static void feed_page(const uint8_t *bytes, size_t length)
+{
+    lend_page(bytes, length);
+    if (call_page() != 0)
+        EXPECT_LAST(whole_answer[0], whole_answer[1]);
+}
+
+static void open_in(size_t room)
+{
+    call_open();
+    LEND(built, room);
+}
+
+static void expect_close_as_whole(void)
+{
+    call_close();
+    expect_as_whole();
+}
+
+/* Two pages, cut at each place, with the session carried over the cut. */
+static void feed_cut_everywhere(const uint8_t *bytes, size_t length, size_t room)
+{
+    size_t cut;
+    for (cut = 0; cut <= length; cut++) {
+        open_in(room);
+        feed_page(bytes, cut);
+        carry_elsewhere();
+        feed_page(bytes + cut, length - cut);
+        expect_close_as_whole();
+    }
+}
+
+/* Pages of one size, with an empty page after each. */
+static void feed_pages_of(const uint8_t *bytes, size_t length, size_t room, size_t size)
+{
+    size_t start, step;
+    open_in(room);
+    for (start = 0; start < length; start += step) {
+        step = length - start < size ? length - start : size;
+        feed_page(bytes + start, step);
+        feed_page(bytes, 0);
+    }
+    expect_close_as_whole();
+}
+
+static void sessions_agree_with_whole_reads(void)
+{
+    static const size_t sizes[] = { 1, 2, 3, 7 };
+    uint8_t bytes[16];
+    size_t k, s, length;
+    for (k = 0; k < READINGS; k++) {
+        begin(readings[k].name);
+        length = spell(readings[k].hex, bytes);
+        read_whole(bytes, length, readings[k].room);
+        feed_cut_everywhere(bytes, length, readings[k].room);
+        for (s = 0; s < sizeof sizes / sizeof sizes[0]; s++)
+            feed_pages_of(bytes, length, readings[k].room, sizes[s]);
+    }
+}
+
+static void expect_record(const uint32_t *numbers)
+{
+    CHECK(same_numbers(record, numbers, KZ_RECORD));
+}
+
+static void expect_reading(uint32_t steps, uint32_t dim, uint32_t darts)
+{
+    EXPECT_LAST(0, 0);
+    CHECK(answer[2] == steps && answer[3] == dim && answer[4] == darts);
+}
+
+static void give(const char *hex)
+{
+    lend_page_of(hex);
+    call_page();
+}
+
+/* Every step is done that needs no bit beyond those seen, no more and no less. */
+static void record_after_each_byte(void)
+{
+    static const uint32_t first[KZ_RECORD] = { 0, 0, 0, 0, 0, 0, 0, 0, 0, 0, 0, 0, 0, 8, 0x10 };
+    static const uint32_t header[KZ_RECORD] = { 1, 0, 0, 1, 4, 1, 0, 0, 0, 0, 0, 0, 0, 0, 0 };
+    static const uint32_t steps[KZ_RECORD] = { 1, 0, 0, 1, 4, 4, 4, 1, 0, 0, 0, 0, 0, 5, 0x18 };
+    static const uint32_t bits[KZ_RECORD] = { 1, 0, 0, 1, 4, 4, 4, 1, 0, 0, 0, 0, 0, 13, 0x1800 };
+    begin("record after each byte");
+    open_in(8);
+    give("10");
+    expect_reading(0, 0, 0);
+    expect_record(first);
+    give("03");
+    expect_reading(0, 1, 4);
+    expect_record(header);
+    give("18");
+    expect_reading(5, 1, 4);
+    expect_record(steps);
+    give("00");
+    expect_reading(5, 1, 4);
+    expect_record(bits);
+    EXPECT(call_close(), KZ_CUT, 5);
+    EXPECT(call_close(), KZ_CUT, 5);
+    EXPECT(give("00"), KZ_CUT, 5);
+}
+
+static void index_waits_for_its_last_bit(void)
+{
+    static const uint32_t waits[KZ_RECORD] = { 1, 0, 0, 1, 2, 1, 0, 0, 0, 0, 0, 0, 0, 8, 0xC1 };
+    begin("index waits");
+    open_in(4);
+    give("10 01 C1");
+    expect_reading(0, 1, 2);
+    expect_record(waits);
+    EXPECT(give("00"), KZ_INDEX, 0);
+}
+
+static void empty_page_changes_nothing(void)
+{
+    begin("empty page");
+    open_in(4);
+    give("");
+    expect_reading(0, 0, 0);
+    give("10 01");
+    give("");
+    expect_reading(0, 1, 2);
+    CHECK(KEPT(record) && KEPT(built));
+    give("50");
+    give("");
+    expect_reading(4, 1, 2);
+    CHECK(KEPT(record) && KEPT(built));
+}
+
+static void closed_once(void)
+{
+    static const uint32_t complete[KZ_RECORD] = { 2, 0, 0, 1, 2, 2, 2, 2, 0, 0, 0, 0, 0, 0, 0 };
+    static const uint32_t closed[KZ_RECORD] = { 3, 0, 0, 1, 2, 2, 2, 2, 0, 0, 0, 0, 0, 0, 0 };
+    begin("closed once");
+    open_in(4);
+    give("10 01 50");
+    expect_record(complete);
+    call_close();
+    expect_reading(4, 1, 2);
+    expect_record(closed);
+    EXPECT(call_close(), KZ_CLOSED, 0);
+    EXPECT(give("00"), KZ_CLOSED, 0);
+    EXPECT(give(""), KZ_CLOSED, 0);
+    LEND(built, 0);
+    EXPECT(call_close(), KZ_CLOSED, 0);
+}
+
+static void byte_after_a_complete_session(void)
+{
+    begin("byte after the end");
+    open_in(4);
+    give("10 01 50");
+    EXPECT(give("00"), KZ_BYTE_AFTER, 4);
+    CHECK(no_link(built, 4));
+    EXPECT(give(""), KZ_BYTE_AFTER, 4);
+    EXPECT(call_close(), KZ_BYTE_AFTER, 4);
+}
+
+/* Lent records: numbers and tables of any content. */
+
+static void lend_record(const uint32_t *numbers, size_t room, const uint16_t *tables)
+{
+    size_t k;
+    LEND(record, KZ_RECORD);
+    LEND(built, room);
+    for (k = 0; k < KZ_RECORD; k++)
+        record[k] = numbers[k];
+    for (k = 0; k < room; k++)
+        built[k] = tables[k];
+}
+
+struct lent {
+    const char *name;
+    uint32_t record[KZ_RECORD];
+    size_t room;
+    uint16_t tables[4];
+};
+
+enum { NO = KZ_NO_LINK };
+
+static const struct lent unfit[] = {
+    { "state 5", { 5 }, 0, { 0 } },
+    { "greatest state", { 0xFFFFFFFF }, 0, { 0 } },
+    { "refusal number in header state", { 0, 11 }, 0, { 0 } },
+    { "refusal place in header state", { 0, 0, 1 }, 0, { 0 } },
+    { "refusal number when closed", { 3, 20 }, 0, { 0 } },
+    { "position 65536", { 3, 0, 0, 0, 0, 0, 65536 }, 0, { 0 } },
+    { "last position 65536", { 3, 0, 0, 0, 0, 0, 0, 0, 0, 0, 0, 0, 65536 }, 0, { 0 } },
+    { "value 65536 when refused", { 4, 11, 0, 0, 0, 0, 0, 0, 0, 0, 0, 0, 0, 0, 65536 }, 0, { 0 } },
+    { "header with a count", { 0, 0, 0, 0, 0, 1 }, 0, { 0 } },
+    { "header with 7 bits", { 0, 0, 0, 0, 0, 0, 0, 0, 0, 0, 0, 0, 0, 7, 1 }, 0, { 0 } },
+    { "header with value past 8 bits", { 0, 0, 0, 0, 0, 0, 0, 0, 0, 0, 0, 0, 0, 8, 256 }, 0, { 0 } },
+    { "no bits but a value", { 0, 0, 0, 0, 0, 0, 0, 0, 0, 0, 0, 0, 0, 0, 5 }, 0, { 0 } },
+    { "refused by 0", { 4, 0, 0 }, 0, { 0 } },
+    { "refused by 2", { 4, 2, 0 }, 0, { 0 } },
+    { "refused by 10", { 4, 10, 0 }, 0, { 0 } },
+    { "refused by 1 at 1", { 4, 1, 1 }, 0, { 0 } },
+    { "refused by 3 at 1", { 4, 3, 1 }, 0, { 0 } },
+    { "refused by 19", { 4, 19, 0 }, 0, { 0 } },
+    { "refused by 20", { 4, 20, 0 }, 0, { 0 } },
+    { "running in dimension 0", { 1, 0, 0, 0, 2, 1 }, 4, { NO, NO, NO, NO } },
+    { "running in dimension 7", { 1, 0, 0, 7, 2, 1 }, 4, { NO, NO, NO, NO } },
+    { "running without darts", { 1, 0, 0, 1, 0, 1 }, 4, { NO, NO, NO, NO } },
+    { "running with 4097 darts", { 1, 0, 0, 1, 4097, 1 }, 4, { NO, NO, NO, NO } },
+    { "running, short tables", { 1, 0, 0, 1, 2, 1 }, 3, { NO, NO, NO } },
+    { "count 0", { 1, 0, 0, 1, 2, 0 }, 4, { NO, NO, NO, NO } },
+    { "count above n", { 1, 0, 0, 1, 2, 3 }, 4, { NO, NO, NO, NO } },
+    { "position above count", { 1, 0, 0, 1, 2, 1, 2 }, 4, { 0, 0, NO, NO } },
+    { "rising positions", { 1, 0, 0, 1, 2, 2, 1, 2 }, 4, { 1, 0, 1, 0 } },
+    { "position past N", { 1, 0, 0, 1, 2, 2, 2, 1, 1 }, 4, { 1, 0, 0, NO } },
+    { "entry not below count", { 1, 0, 0, 1, 2, 1, 1, 0 }, 4, { 1, NO, NO, NO } },
+    { "entry missing behind a position", { 1, 0, 0, 1, 2, 2, 1, 0 }, 4, { NO, NO, NO, NO } },
+    { "entry of a dart without number", { 1, 0, 0, 1, 2, 1, 0 }, 4, { NO, 0, NO, NO } },
+    { "next step known", { 1, 0, 0, 1, 2, 2, 1, 0 }, 4, { 1, 0, NO, NO } },
+    { "14 waiting bits", { 1, 0, 0, 1, 2, 1, 0, 0, 0, 0, 0, 0, 0, 14, 0x3000 }, 4, { NO, NO, NO, NO } },
+    { "waiting bits of a whole symbol", { 1, 0, 0, 1, 2, 1, 0, 0, 0, 0, 0, 0, 0, 2, 2 }, 4, { NO, NO, NO, NO } },
+    { "complete with a step left", { 2, 0, 0, 1, 2, 2, 2, 1 }, 4, { 1, 0, 0, NO } },
+    { "complete without its tables", { 2, 0, 0, 1, 2, 2, 2, 2 }, 4, { 1, 0, NO, NO } },
+    { "complete with waiting bits", { 2, 0, 0, 1, 2, 2, 2, 2, 0, 0, 0, 0, 0, 1, 1 }, 4, { 1, 0, 0, 1 } },
+};
+
+static void unfit_records_are_left(void)
+{
+    size_t k;
+    for (k = 0; k < sizeof unfit / sizeof unfit[0]; k++) {
+        begin(unfit[k].name);
+        lend_record(unfit[k].record, unfit[k].room, unfit[k].tables);
+        EXPECT(give("80"), KZ_UNFIT, 0);
+        EXPECT(give(""), KZ_UNFIT, 0);
+        EXPECT(call_close(), KZ_UNFIT, 0);
+    }
+}
+
+/* Fit is asked of a refused record only in its number and place, and of a closed one nothing but sixteen bits. */
+static void lent_refusals_and_closed_records(void)
+{
+    static const uint32_t refused[KZ_RECORD] = { 4, 11, 4000000000u, 9, 8, 7, 6, 5, 4, 3, 2, 1, 0, 65535, 65535 };
+    static const uint32_t closed[KZ_RECORD] = { 3, 0, 0, 9, 65535, 65535, 1, 2, 3, 4, 5, 6, 7, 65535, 65535 };
+    static const uint16_t tables[4] = { 7, 7, 7, 7 };
+    uint32_t numbers[KZ_RECORD] = { 4 };
+    begin("lent refusals");
+    lend_record(refused, 4, tables);
+    EXPECT(give("10 01 50"), KZ_CUT, 4000000000u);
+    EXPECT(call_close(), KZ_CUT, 4000000000u);
+    for (numbers[1] = KZ_CUT; numbers[1] <= KZ_BYTE_AFTER; numbers[1]++) {
+        numbers[2] = 3 * numbers[1];
+        lend_record(numbers, 4, tables);
+        EXPECT(give("80"), numbers[1], numbers[2]);
+    }
+    lend_record(closed, 4, tables);
+    EXPECT(give("10 01 50"), KZ_CLOSED, 0);
+    EXPECT(call_close(), KZ_CLOSED, 0);
+}
+
+/* A fit session that no reading could leave is carried on by the same rules: here a0 is not its own inverse, and dimension 1 has no
+   pair of ranks that the end could test. */
+static void lent_session_goes_on(void)
+{
+    static const uint32_t numbers[KZ_RECORD] = { 1, 0, 0, 1, 2, 2, 2, 1 };
+    static const uint16_t tables[4] = { 0, 0, 0, NO };
+    begin("lent session goes on");
+    lend_record(numbers, 4, tables);
+    give("80");
+    expect_reading(4, 1, 2);
+    CHECK(built[0] == 0 && built[1] == 0 && built[2] == 0 && built[3] == 1);
+    call_close();
+    expect_reading(4, 1, 2);
+}
+
+/* Posted maps: refusals. */
+
+enum { BAD = 6 };
+static const uint64_t bad_dims[BAD] = { 0, 7, 65536 + 1, WIDE, WIDE + 1, MOST };
+static const uint64_t bad_darts[BAD] = { 0, KZ_MAX_DARTS + 1, 65536 + 6, WIDE, WIDE + 6, MOST };
+static const uint64_t bad_roots[BAD] = { 6, 65535, 65536, WIDE, WIDE + 1, MOST };
+
+/* The three calls that take a map, refused alike. */
+static void all_refuse(struct map m, uint64_t root, uint32_t number, uint32_t place)
+{
+    LEND(out, 9);
+    EXPECT(call_check(m, root), number, place);
+    EXPECT(call_write(m, root, 0), number, place);
+    if (root == 0)
+        EXPECT(call_report(m), number, place);
+}
+
+/* Numbers whose lower half would pass are refused like any other. */
+static void numbers_out_of_range(void)
+{
+    size_t k;
+    struct map m, bad;
+    begin("numbers out of range");
+    m = triangle();
+    for (k = 0; k < BAD; k++) {
+        bad = m;
+        bad.dim = bad_dims[k];
+        all_refuse(bad, 0, KZ_DIMENSION, 0);
+        bad = m;
+        bad.darts = bad_darts[k];
+        all_refuse(bad, 0, KZ_DARTS, 0);
+        all_refuse(m, bad_roots[k], KZ_ROOT, 0);
+    }
+}
+
+static void rooms_one_entry_short(void)
+{
+    struct map m;
+    begin("rooms one entry short");
+    m = triangle();
+    SHORTEN(posted, 12);
+    SHORTEN(work, 12);
+    EXPECT(call_check(m, 0), 0, 0);
+    SHORTEN(work, 11);
+    all_refuse(m, 0, KZ_SHORT_WORK, 0);
+    SHORTEN(work, 0);
+    all_refuse(m, 0, KZ_SHORT_WORK, 0);
+    SHORTEN(posted, 11);
+    all_refuse(m, 0, KZ_SHORT_TABLES, 0);
+    SHORTEN(posted, 0);
+    all_refuse(m, 0, KZ_SHORT_TABLES, 0);
+}
+
+static void entries_not_below_n(void)
+{
+    struct map m;
+    begin("entries not below n");
+    m = triangle();
+    posted[11] = KZ_NO_LINK;
+    all_refuse(m, 0, KZ_ENTRY, 11);
+    posted[4] = 6;
+    all_refuse(m, 0, KZ_ENTRY, 4);
+    all_refuse(m, 5, KZ_ENTRY, 4);
+}
+
+/* The place is the first position that fails, not the entry one would mend. */
+static void links_not_their_own_inverse(void)
+{
+    struct map m;
+    begin("links not their own inverse");
+    m = post_free(1, 2);
+    posted[0] = posted[1] = 1;
+    all_refuse(m, 0, KZ_INVERSE, 0);
+    m = triangle();
+    posted[6 + 3] = 0;
+    all_refuse(m, 0, KZ_INVERSE, 6 + 3);
+}
+
+/* Ranks 0 and 3 break the condition at dart 4, ranks 1 and 3 at dart 0: the pair comes first, then the dart. */
+static void manifold_condition_by_pair_then_dart(void)
+{
+    struct map m;
+    begin("manifold condition");
+    m = post_free(3, 7);
+    tie(m, 1, 0, 1);
+    tie(m, 3, 1, 2);
+    all_refuse(m, 0, KZ_MANIFOLD, 0);
+    tie(m, 0, 4, 5);
+    tie(m, 3, 5, 6);
+    all_refuse(m, 0, KZ_MANIFOLD, 4);
+}
+
+/* The least dart not reached from the root that was given; the report's root is dart 0. */
+static void darts_not_reached(void)
+{
+    struct map m;
+    begin("darts not reached");
+    m = post_free(1, 2);
+    all_refuse(m, 0, KZ_NOT_REACHED, 1);
+    all_refuse(m, 1, KZ_NOT_REACHED, 0);
+    m = post_squares(2);
+    all_refuse(m, 0, KZ_NOT_REACHED, 8);
+    all_refuse(m, 9, KZ_NOT_REACHED, 0);
+}
+
+struct faulty {
+    struct map m;
+    uint64_t root, start;
+};
+
+/* A posting with the faults of 1 to 10, the first `mended` of them mended. */
+static struct faulty post_faults(int mended)
+{
+    struct faulty f;
+    f.m = post_free(2, 6);
+    tie(f.m, 0, 0, 1);
+    tie(f.m, 0, 2, 3);
+    tie(f.m, 0, 4, 5);
+    tie(f.m, 1, 1, 2);
+    if (mended < 6)
+        posted[17] = 6;
+    if (mended < 7)
+        posted[9] = 0;
+    if (mended < 8)
+        tie(f.m, 2, 2, 4);
+    if (mended >= 9)
+        tie(f.m, 1, 3, 4);
+    LEND(work, mended < 4 ? 11 : 12);
+    SHORTEN(posted, mended < 3 ? 17 : 18);
+    f.m.dim = mended < 1 ? 7 : 2;
+    f.m.darts = mended < 2 ? KZ_MAX_DARTS + 1 : 6;
+    f.root = mended < 5 ? MOST : 0;
+    f.start = mended < 10 ? MOST : 0;
+    return f;
+}
+
+/* Of several faults the first in the order is answered, each test covering the whole tables before the next. */
+static void first_fault_is_answered(void)
+{
+    static const uint32_t places[] = { 0, 0, 0, 0, 0, 17, 9, 2, 4 };
+    struct faulty f;
+    uint32_t length;
+    int mended;
+    begin("first fault");
+    LEND(out, 9);
+    for (mended = 0; mended < 9; mended++) {
+        f = post_faults(mended);
+        EXPECT(call_check(f.m, f.root), (uint32_t)mended + 1, places[mended]);
+        EXPECT(call_write(f.m, f.root, f.start), (uint32_t)mended + 1, places[mended]);
+        if (mended != 4)
+            EXPECT(call_report(f.m), (uint32_t)mended + 1, places[mended]);
+        else
+            EXPECT(call_report(f.m), KZ_ENTRY, 17);
+    }
+    f = post_faults(9);
+    EXPECT(call_check(f.m, f.root), 0, 0);
+    EXPECT(call_report(f.m), 0, 0);
+    EXPECT(call_write(f.m, f.root, 0), 0, 0);
+    length = answer[3];
+    EXPECT(call_write(f.m, f.root, f.start), KZ_PAST_END, length);
+    f = post_faults(10);
+    EXPECT(call_write(f.m, f.root, f.start), 0, 0);
+}
+
+/* Posted maps: the writer. */
+
+static uint8_t stream[KZ_MAX_STREAM];
+
+/* The whole stream of a posted map, kept in `stream`; its length. */
+static size_t write_whole(struct map m, uint64_t root)
+{
+    size_t k, length;
+    LEND(out, KZ_MAX_STREAM);
+    EXPECT(call_write(m, root, 0), 0, 0);
+    length = answer[3];
+    CHECK(answer[2] == length);
+    for (k = 0; k < length; k++)
+        stream[k] = out[k];
+    return length;
+}
+
+static void expect_stream(struct map m, uint64_t root, const char *hex)
+{
+    uint8_t bytes[16];
+    size_t length = spell(hex, bytes);
+    CHECK(write_whole(m, root) == length);
+    CHECK(same_bytes(stream, bytes, length));
+}
+
+static void known_streams(void)
+{
+    struct map m;
+    begin("known streams");
+    expect_stream(post_free(1, 1), 0, "10 00 A0");
+    expect_stream(post_chain(1, 2), 0, "10 01 50");
+    expect_stream(post_free(6, 1), 0, "60 00 AA A8");
+    m = triangle();
+    expect_stream(m, 0, "10 05 06 00 A0");
+    expect_stream(m, 3, "10 05 06 00 A0");
+    m = post_chain(1, 3);
+    expect_stream(m, 0, "10 02 48");
+    expect_stream(m, 2, "10 02 88");
+}
+
+/* Pages of one size, each begun where the last one ended, join to the stream. */
+static void write_pages_of(struct map m, uint64_t root, size_t length, size_t size)
+{
+    size_t start = 0;
+    while (start < length) {
+        LEND(out, size);
+        EXPECT(call_write(m, root, start), 0, 0);
+        CHECK(answer[3] == length && answer[2] > 0);
+        CHECK(same_bytes(out, stream + start, answer[2]));
+        if (answer[2] == 0)
+            return;
+        start += answer[2];
+    }
+    CHECK(start == length);
+}
+
+/* No sum of start and room is made before the start is found to be in the stream. */
+static void starts_at_and_past_the_end(void)
+{
+    struct map m;
+    uint64_t start;
+    begin("starts at and past the end");
+    m = post_free(1, 1);
+    LEND(out, 5);
+    for (start = 0; start <= 3; start++) {
+        EXPECT(call_write(m, 0, start), 0, 0);
+        CHECK(answer[2] == 3 - start && answer[3] == 3);
+    }
+    EXPECT(call_write(m, 0, 4), KZ_PAST_END, 3);
+    EXPECT(call_write(m, 0, 65536), KZ_PAST_END, 3);
+    EXPECT(call_write(m, 0, WIDE), KZ_PAST_END, 3);
+    EXPECT(call_write(m, 0, WIDE + 1), KZ_PAST_END, 3);
+    EXPECT(call_write(m, 0, MOST - 1), KZ_PAST_END, 3);
+    EXPECT(call_write(m, 0, MOST), KZ_PAST_END, 3);
+    LEND(out, 0);
+    EXPECT(call_write(m, 0, 0), 0, 0);
+    CHECK(answer[2] == 0 && answer[3] == 3);
+    EXPECT(call_write(m, 0, 4), KZ_PAST_END, 3);
+}
+
+/* Posted maps: there and back. */
+
+/* Are the tables built from the stream the posted map's, each dart under its walk number? */
+static int built_under(struct map m, const uint16_t *numbers)
+{
+    uint64_t i, d;
+    for (i = 0; i <= m.dim; i++)
+        for (d = 0; d < m.darts; d++)
+            if (built[i * m.darts + numbers[d]] != numbers[posted[i * m.darts + d]])
+                return 0;
+    return 1;
+}
+
+/* The stream fed to sessions in pages of this size and, if it is short, cut at each place. */
+static void feed_stream_by(size_t size, size_t length, size_t room)
+{
+    feed_pages_of(stream, length, room, size);
+    if (length < 64 && size == 1)
+        feed_cut_everywhere(stream, length, room);
+}
+
+/* Check, write, read back; then the same by pages, of sizes that do not make too many of them. Afterwards `stream` and `built` hold the
+   stream and its tables. The stream's length. */
+static size_t there_and_back(struct map m, uint64_t root)
+{
+    static const size_t sizes[] = { 1, 2, 3, 7, 64, 5000 };
+    static uint16_t numbers[KZ_MAX_DARTS];
+    size_t k, length, entries = (size_t)((m.dim + 1) * m.darts);
+    EXPECT(call_check(m, root), 0, 0);
+    for (k = 0; k < m.darts; k++)
+        numbers[k] = work[k];
+    length = write_whole(m, root);
+    CHECK(same_entries(work, numbers, m.darts));
+    read_whole(stream, length, entries + SPARE);
+    EXPECT_LAST(0, 0);
+    CHECK(answer[2] == entries && answer[3] == m.dim && answer[4] == m.darts);
+    CHECK(built_under(m, numbers));
+    for (k = 0; k < 6; k++)
+        if (length <= 200 * sizes[k]) {
+            write_pages_of(m, root, length, sizes[k]);
+            feed_stream_by(sizes[k], length, entries + SPARE);
+        }
+    return length;
+}
+
+/* Posts the tables that were built: from dart 0 they have the same stream, and the walk numbers the darts as they stand. */
+static void post_what_was_built(struct map m, size_t length)
+{
+    static uint8_t first[KZ_MAX_STREAM];
+    size_t k, entries = (size_t)((m.dim + 1) * m.darts);
+    for (k = 0; k < length; k++)
+        first[k] = stream[k];
+    for (k = 0; k < entries; k++)
+        posted[k] = built[k];
+    CHECK(write_whole(m, 0) == length);
+    CHECK(same_bytes(stream, first, length));
+    for (k = 0; k < m.darts && work[k] == k; k++)
+        ;
+    CHECK(k == m.darts);
+}
+
+static void expect_report(const struct sample *s, struct map m)
+{
+    int i;
+    EXPECT(call_report(m), 0, 0);
+    for (i = 0; i <= KZ_MAX_DIM; i++)
+        CHECK(answer[2 + i] == s->cells[i]);
+    CHECK(answer[9] == s->free && answer[10] == s->orientable);
+}
+
+/* A sample from several roots; then what was read back last is posted in turn and reported. */
+static void sample_there_and_back(const struct sample *s)
+{
+    struct map m;
+    begin(s->name);
+    m = s->post();
+    expect_report(s, m);
+    there_and_back(m, 0);
+    if (m.darts > 2)
+        there_and_back(m, m.darts / 3);
+    if (m.darts > 4)
+        there_and_back(m, m.darts / 2 + 1);
+    post_what_was_built(m, there_and_back(m, m.darts - 1));
+    expect_report(s, m);
+}
+
+static void samples_there_and_back(void)
+{
+    int k;
+    for (k = 0; k < SAMPLES; k++)
+        sample_there_and_back(&samples[k]);
+}
+
+/* Limits. */
+
+static void as_many_darts_as_allowed(void)
+{
+    struct map m;
+    begin("as many darts as allowed");
+    m = post_chain(1, KZ_MAX_DARTS);
+    EXPECT(call_check(m, KZ_MAX_DARTS - 1), 0, 0);
+    SHORTEN(posted, 2 * KZ_MAX_DARTS - 1);
+    all_refuse(m, 0, KZ_SHORT_TABLES, 0);
+    m = post_chain(1, KZ_MAX_DARTS + 1);
+    all_refuse(m, 0, KZ_DARTS, 0);
+}
+
+/* The longest stream of a map within the limits, in rooms of exactly the stated sizes. */
+static void longest_stream(void)
+{
+    struct map m;
+    size_t length;
+    begin("longest stream");
+    m = most_pairs();
+    SHORTEN(posted, KZ_MAX_TABLES);
+    SHORTEN(work, KZ_MAX_WORK);
+    length = write_whole(m, 0);
+    CHECK(length == 14854);
+    read_whole(stream, length, KZ_MAX_TABLES);
+    CHECK(whole_answer[0] == 0 && whole_answer[2] == KZ_MAX_TABLES);
+    feed_pages_of(stream, length, KZ_MAX_TABLES, 4096);
+    read_whole(stream, length, KZ_MAX_TABLES - 1);
+    EXPECT_LAST(KZ_SHORT_TABLES, 0);
+}
+
+static void every_number_was_seen(void)
+{
+    int k;
+    what = "every number from 0 to 20 was answered";
+    for (k = 0; k <= KZ_CLOSED; k++)
+        CHECK(seen[k]);
+}
+
+int main(void)
+{
+    read_each_stream();
+    read_known_tables();
+    sessions_agree_with_whole_reads();
+    record_after_each_byte();
+    index_waits_for_its_last_bit();
+    empty_page_changes_nothing();
+    closed_once();
+    byte_after_a_complete_session();
+    unfit_records_are_left();
+    lent_refusals_and_closed_records();
+    lent_session_goes_on();
+    numbers_out_of_range();
+    rooms_one_entry_short();
+    entries_not_below_n();
+    links_not_their_own_inverse();
+    manifold_condition_by_pair_then_dart();
+    darts_not_reached();
+    first_fault_is_answered();
+    known_streams();
+    starts_at_and_past_the_end();
+    samples_there_and_back();
+    as_many_darts_as_allowed();
+    longest_stream();
+    every_number_was_seen();
+    printf("surface: %lu checks, %lu failed\n", checks, failures);
+    return failures != 0;
+}

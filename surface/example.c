@@ -1,0 +1,65 @@
+/*
+ * The map of one square, there and back: posted as tables, checked, handed out in pages of four bytes, read back page by page, and
+ * reported.
+ */
+#include "kanzhulet.h"
+#include <stdio.h>
+
+enum { DIM = 2, DARTS = 8, ENTRIES = (DIM + 1) * DARTS, PAGE = 4 };
+
+/* Darts 2s and 2s+1 are the two ends of side s. ai(d) stands at i*DARTS + d. */
+static const uint16_t square[ENTRIES] = {
+    1, 0, 3, 2, 5, 4, 7, 6, /* a0: the other end of the side */
+    7, 2, 1, 4, 3, 6, 5, 0, /* a1: the side that meets it there */
+    0, 1, 2, 3, 4, 5, 6, 7, /* a2: the square across the side: none, so every dart is free at rank 2 */
+};
+
+static int refused(const uint32_t *answer)
+{
+    if (answer[0] != KZ_ACCEPTED)
+        printf("refused %u at %u\n", (unsigned)answer[0], (unsigned)answer[1]);
+    return answer[0] != KZ_ACCEPTED;
+}
+
+int main(void)
+{
+    uint16_t work[2 * DARTS];       /* lent to the check, the writer and the report */
+    uint16_t tables[KZ_MAX_TABLES]; /* what the reader builds; long enough for every map */
+    uint32_t record[KZ_RECORD];     /* the reader's session */
+    uint32_t checked[KZ_CHECK_ANSWER], written[KZ_WRITE_ANSWER], back[KZ_READ_ANSWER], report[KZ_REPORT_ANSWER];
+    uint8_t page[PAGE];
+    uint64_t start = 0;
+
+    kz_check(DIM, DARTS, 0, square, ENTRIES, work, 2 * DARTS, checked);
+    if (refused(checked))
+        return 1;
+
+    kz_open(record);
+    do {
+        kz_write(DIM, DARTS, 0, start, square, ENTRIES, work, 2 * DARTS, page, PAGE, written);
+        if (refused(written))
+            return 1;
+        printf("page at %u:", (unsigned)start);
+        for (uint32_t k = 0; k < written[2]; k++)
+            printf(" %02X", page[k]);
+        printf("\n");
+        kz_page(record, page, written[2], tables, KZ_MAX_TABLES, back);
+        if (refused(back))
+            return 1;
+        start += written[2];
+    } while (start < written[3]);
+
+    kz_close(record, tables, KZ_MAX_TABLES, back);
+    if (refused(back))
+        return 1;
+    printf("dimension %u darts %u steps %u\n", (unsigned)back[3], (unsigned)back[4], (unsigned)back[2]);
+
+    kz_report(back[3], back[4], tables, KZ_MAX_TABLES, work, 2 * DARTS, report);
+    if (refused(report))
+        return 1;
+    printf("cells");
+    for (uint32_t i = 0; i <= back[3]; i++)
+        printf(" %u", (unsigned)report[2 + i]);
+    printf("\nfree %u\norientable %s\n", (unsigned)report[9], report[10] ? "yes" : "no");
+    return 0;
+}

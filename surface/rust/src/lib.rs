@@ -1,0 +1,334 @@
+//! A safe wrapper of the proved library for generalised maps, for x86-64 Linux.
+//!
+//! A map of dimension N (1 to 6) has n darts (1 to 4,096), 0 to n-1, and N+1 links a0..aN for each dart. Its tables are 16-bit numbers:
+//! ai(d) stands at position i·n + d, and ai(d) = d says that dart d is free at rank i. In tables that are being read, [`NO_LINK`] says
+//! "no link yet". `include/kanzhulet.h` says in full what each call stores; this wrapper calls it and adds no behaviour.
+//!
+//! Every call takes all values of its numbers and all contents of its slices, and allocates nothing. A call that is not accepted gives a
+//! [`Refusal`].
+//!
+//! ```
+//! // One square: dimension 2, eight darts, 2s and 2s+1 the two ends of side s, every dart free at rank 2.
+//! let square = [1, 0, 3, 2, 5, 4, 7, 6, 7, 2, 1, 4, 3, 6, 5, 0, 0, 1, 2, 3, 4, 5, 6, 7];
+//! let (mut work, mut out) = ([0; 16], [0; 64]);
+//! let written = kanzhulet::write(2, 8, 0, 0, &square, &mut work, &mut out)?;
+//! let mut tables = [0; 24];
+//! let read = kanzhulet::read(&out[..written.written], &mut tables)?;
+//! assert_eq!((read.dim, read.darts, read.steps), (2, 8, 24));
+//! let report = kanzhulet::report(2, 8, &tables, &mut work)?;
+//! assert_eq!((report.cells, report.free), ([4, 4, 1, 0, 0, 0, 0], 8));
+//! # Ok::<(), kanzhulet::Refusal>(())
+//! ```
+
+#![deny(missing_docs)]
+
+use std::error::Error;
+use std::fmt;
+
+/// The highest dimension.
+pub const MAX_DIM: usize = 6;
+/// The greatest number of darts.
+pub const MAX_DARTS: usize = 4096;
+/// Entries of tables that are long enough for every map.
+pub const MAX_TABLES: usize = 28672;
+/// Entries of a work room that is long enough for every map.
+pub const MAX_WORK: usize = 8192;
+/// Bytes; no stream is longer.
+pub const MAX_STREAM: usize = 50178;
+/// The entry that says "no link yet".
+pub const NO_LINK: u16 = 65535;
+/// How many numbers a session's record has.
+pub const RECORD: usize = 15;
+
+mod surface {
+    //! The calls of `kanzhulet.h`.
+
+    extern "C" {
+        pub fn kz_check(
+            dim: u64,
+            darts: u64,
+            root: u64,
+            tables: *const u16,
+            tables_length: usize,
+            work: *mut u16,
+            work_length: usize,
+            answer: *mut [u32; 2],
+        ) -> u32;
+        pub fn kz_write(
+            dim: u64,
+            darts: u64,
+            root: u64,
+            start: u64,
+            tables: *const u16,
+            tables_length: usize,
+            work: *mut u16,
+            work_length: usize,
+            out: *mut u8,
+            out_length: usize,
+            answer: *mut [u32; 4],
+        ) -> u32;
+        pub fn kz_read(bytes: *const u8, bytes_length: usize, tables: *mut u16, tables_length: usize, answer: *mut [u32; 5]) -> u32;
+        pub fn kz_open(record: *mut [u32; 15]);
+        pub fn kz_page(
+            record: *mut [u32; 15],
+            bytes: *const u8,
+            bytes_length: usize,
+            tables: *mut u16,
+            tables_length: usize,
+            answer: *mut [u32; 5],
+        ) -> u32;
+        pub fn kz_close(record: *mut [u32; 15], tables: *mut u16, tables_length: usize, answer: *mut [u32; 5]) -> u32;
+        pub fn kz_report(
+            dim: u64,
+            darts: u64,
+            tables: *const u16,
+            tables_length: usize,
+            work: *mut u16,
+            work_length: usize,
+            answer: *mut [u32; 11],
+        ) -> u32;
+    }
+}
+
+/// A call that was not accepted: by which number, at which place. Every other number of its answer is 0, but for the steps of a reading,
+/// which are the place.
+#[derive(Clone, Copy, Debug, PartialEq, Eq)]
+pub struct Refusal {
+    /// The refusal number, 1 to 20, as `kanzhulet.h` lists them.
+    pub number: u32,
+    /// The place that goes with the number: a position in the tables, a dart, a stream's length or the steps done.
+    pub place: usize,
+}
+
+impl fmt::Display for Refusal {
+    fn fmt(&self, f: &mut fmt::Formatter<'_>) -> fmt::Result {
+        write!(f, "refused {} at {}", self.number, self.place)
+    }
+}
+
+impl Error for Refusal {}
+
+/// The answer of an accepted [`check`]: the numbering that the work room holds.
+#[derive(Clone, Copy, Debug, PartialEq, Eq)]
+pub struct CheckAnswer<'a> {
+    /// The walk number of each dart.
+    pub walk_numbers: &'a [u16],
+    /// The dart of each walk number.
+    pub darts: &'a [u16],
+}
+
+/// The answer of an accepted [`write()`].
+#[derive(Clone, Copy, Debug, PartialEq, Eq)]
+pub struct WriteAnswer {
+    /// How many bytes were written, from the beginning of the output.
+    pub written: usize,
+    /// The length of the whole stream.
+    pub length: usize,
+}
+
+/// The answer of an accepted reading, or of a page after which the session waits for more.
+#[derive(Clone, Copy, Debug, PartialEq, Eq)]
+pub struct ReadAnswer {
+    /// The steps done so far.
+    pub steps: usize,
+    /// The dimension; 0 until a header is accepted.
+    pub dim: usize,
+    /// The number of darts; 0 until a header is accepted.
+    pub darts: usize,
+}
+
+/// The answer of an accepted [`report`].
+#[derive(Clone, Copy, Debug, PartialEq, Eq)]
+pub struct ReportAnswer {
+    /// The number of i-cells at place i, 0 past the dimension.
+    pub cells: [usize; MAX_DIM + 1],
+    /// The number of free (rank, dart) pairs.
+    pub free: usize,
+    /// Can the darts be put in two classes so that every link goes to the other class?
+    pub orientable: bool,
+}
+
+/// What stage a session is in.
+#[derive(Clone, Copy, Debug, PartialEq, Eq)]
+pub enum State {
+    /// The two header bytes are not both there.
+    Header,
+    /// The walk has steps left.
+    Running,
+    /// The walk has ended, and the session may be closed.
+    Complete,
+    /// The session was closed and accepted.
+    Closed,
+    /// The session was refused, and repeats the refusal.
+    Refused(Refusal),
+}
+
+/// A call's number and place as a `Result`. The number that is returned is also the first that is stored.
+fn accepted(number: u32, place: u32) -> Result<(), Refusal> {
+    match number {
+        0 => Ok(()),
+        _ => Err(Refusal { number, place: place as usize }),
+    }
+}
+
+/// A reading's returned number and stored answer as a `Result`.
+fn reading(number: u32, answer: [u32; 5]) -> Result<ReadAnswer, Refusal> {
+    let [_, place, steps, dim, darts] = answer;
+    accepted(number, place)?;
+    Ok(ReadAnswer { steps: steps as usize, dim: dim as usize, darts: darts as usize })
+}
+
+/// The check of posted tables, from a root: are they a valid connected map? Needs (N+1)·n entries of tables and 2n of work room; longer
+/// slices are allowed, and what is past these is neither read nor written.
+///
+/// Refused by 1 to 9. After 1 to 8 the work room is unchanged, after 9 its first 2n entries are [`NO_LINK`].
+pub fn check<'a>(dim: usize, darts: usize, root: usize, tables: &[u16], work: &'a mut [u16]) -> Result<CheckAnswer<'a>, Refusal> {
+    let mut answer = [0; 2];
+    // SAFETY: each pointer is not null, aligned, and good for as many elements as its length says, as it comes from a slice that is
+    // borrowed over the call. What the call may write is borrowed as mutable, so it overlaps nothing else and no other thread touches it.
+    let number = unsafe {
+        surface::kz_check(
+            dim as u64,
+            darts as u64,
+            root as u64,
+            tables.as_ptr(),
+            tables.len(),
+            work.as_mut_ptr(),
+            work.len(),
+            &mut answer,
+        )
+    };
+    accepted(number, answer[1])?;
+    let (walk_numbers, rest) = work.split_at(darts);
+    Ok(CheckAnswer { walk_numbers, darts: &rest[..darts] })
+}
+
+/// The paged writer: the bytes of the map's stream from byte `start` on, as many as `out` holds or the stream has. A start equal to the
+/// length is accepted and writes nothing. Tables and work room are as for [`check`].
+///
+/// Refused by 1 to 9 as [`check`], then by 10, at the stream's length, if the start is past it. A refusal leaves `out` unchanged. After
+/// an accepted call and after 10 the first n entries of the work room are each dart's walk number, the next n the dart of each number.
+pub fn write(
+    dim: usize,
+    darts: usize,
+    root: usize,
+    start: usize,
+    tables: &[u16],
+    work: &mut [u16],
+    out: &mut [u8],
+) -> Result<WriteAnswer, Refusal> {
+    let mut answer = [0; 4];
+    // SAFETY: as in `check`; `out` too is borrowed as mutable over the call.
+    let number = unsafe {
+        surface::kz_write(
+            dim as u64,
+            darts as u64,
+            root as u64,
+            start as u64,
+            tables.as_ptr(),
+            tables.len(),
+            work.as_mut_ptr(),
+            work.len(),
+            out.as_mut_ptr(),
+            out.len(),
+            &mut answer,
+        )
+    };
+    let [_, place, written, length] = answer;
+    accepted(number, place)?;
+    Ok(WriteAnswer { written: written as usize, length: length as usize })
+}
+
+/// One whole read: accepts exactly the streams that some valid connected map within the limits has from some root, and builds that map
+/// under its walk numbering in the first (N+1)·n entries of the tables.
+///
+/// Refused by 1, 3 and 11 to 18. Once a header is accepted, a refusal leaves [`NO_LINK`] in the first (N+1)·n entries; before, it leaves
+/// the tables unchanged.
+pub fn read(bytes: &[u8], tables: &mut [u16]) -> Result<ReadAnswer, Refusal> {
+    let mut answer = [0; 5];
+    // SAFETY: as in `check`; the call may write the tables, which are borrowed as mutable.
+    let number = unsafe { surface::kz_read(bytes.as_ptr(), bytes.len(), tables.as_mut_ptr(), tables.len(), &mut answer) };
+    reading(number, answer)
+}
+
+/// The cell report of a map. Tables and work room are as for [`check`].
+///
+/// Refused by 1 to 4 and 6 to 9, as [`check`] with root 0. After an accepted call the first 2n entries of the work room are [`NO_LINK`].
+pub fn report(dim: usize, darts: usize, tables: &[u16], work: &mut [u16]) -> Result<ReportAnswer, Refusal> {
+    let mut answer = [0; 11];
+    // SAFETY: as in `check`.
+    let number = unsafe {
+        surface::kz_report(dim as u64, darts as u64, tables.as_ptr(), tables.len(), work.as_mut_ptr(), work.len(), &mut answer)
+    };
+    let [_, place, c0, c1, c2, c3, c4, c5, c6, free, orientable] = answer;
+    accepted(number, place)?;
+    Ok(ReportAnswer {
+        cells: [c0, c1, c2, c3, c4, c5, c6].map(|count| count as usize),
+        free: free as usize,
+        orientable: orientable == 1,
+    })
+}
+
+/// A session reads one stream by pages of any sizes: open, any number of pages, close. The caller lends the same tables to each call
+/// and writes nothing to them in between.
+///
+/// What closing answers, and the tables then, are those of one [`read`] of all the bytes, wherever they were cut.
+#[derive(Clone, Debug, PartialEq, Eq)]
+pub struct Session {
+    record: [u32; RECORD],
+}
+
+impl Session {
+    /// A new session, which waits for a header.
+    pub fn open() -> Session {
+        let mut record = [0; RECORD];
+        // SAFETY: the record is borrowed as mutable over the call.
+        unsafe {
+            surface::kz_open(&mut record);
+        }
+        Session { record }
+    }
+
+    /// The next page of the stream. Every step is done that needs no bit beyond those seen.
+    ///
+    /// Refused by 19 if the session is not fit, or the tables do not go with it; by 20 if it is closed; else as [`read`] but for 11. A
+    /// refused session repeats its refusal.
+    pub fn page(&mut self, bytes: &[u8], tables: &mut [u16]) -> Result<ReadAnswer, Refusal> {
+        let mut answer = [0; 5];
+        // SAFETY: as in `read`; the record too is borrowed as mutable over the call.
+        let number =
+            unsafe { surface::kz_page(&mut self.record, bytes.as_ptr(), bytes.len(), tables.as_mut_ptr(), tables.len(), &mut answer) };
+        reading(number, answer)
+    }
+
+    /// The end of the stream. Accepted if the whole stream was read; refused by 11 if it is cut, and as [`Session::page`] otherwise.
+    pub fn close(&mut self, tables: &mut [u16]) -> Result<ReadAnswer, Refusal> {
+        let mut answer = [0; 5];
+        // SAFETY: as in `page`.
+        let number = unsafe { surface::kz_close(&mut self.record, tables.as_mut_ptr(), tables.len(), &mut answer) };
+        reading(number, answer)
+    }
+
+    /// The session's state; `None` if the record came from elsewhere and has no such state.
+    pub fn state(&self) -> Option<State> {
+        match self.record[0] {
+            0 => Some(State::Header),
+            1 => Some(State::Running),
+            2 => Some(State::Complete),
+            3 => Some(State::Closed),
+            4 => Some(State::Refused(Refusal { number: self.record[1], place: self.record[2] as usize })),
+            _ => None,
+        }
+    }
+
+    /// The fifteen numbers that are the session, as `kanzhulet.h` lists them. Together with the tables they may be stored and carried
+    /// on later, by another process too.
+    pub fn record(&self) -> [u32; RECORD] {
+        self.record
+    }
+
+    /// The session of a stored record. Any numbers may be given: those that no session stands for are refused by 19 when they are used.
+    pub fn from_record(record: [u32; RECORD]) -> Session {
+        Session { record }
+    }
+}

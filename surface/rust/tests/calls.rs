@@ -1,0 +1,702 @@
+//! Tests of the wrapper, the same as those of the surface for C (`surface/calls.c`): every call, every refusal number, slices between
+//! guards. `rooms` checks what holds of every call; the cases here say which answer an input gets.
+
+mod maps;
+mod rooms;
+
+use kanzhulet::{ReadAnswer, Refusal, ReportAnswer, State, WriteAnswer, MAX_DARTS, MAX_STREAM, MAX_TABLES, MAX_WORK, NO_LINK, RECORD};
+use maps::{post_chain, post_free, post_pairs, post_ring, post_squares, tie, Sample, SAMPLES};
+use rooms::{refused, Lent, Map, SPARE};
+
+const MOST: usize = usize::MAX;
+/// 0 for a call that would drop the upper half.
+const WIDE: usize = 1 << 32;
+
+/// Each theme is a test of its own, and all of them together see every number from 0 to 20.
+macro_rules! themes {
+    ($($theme:ident),* $(,)?) => {
+        mod each {
+            $(#[test]
+            fn $theme() {
+                super::$theme(&mut super::Lent::new());
+            })*
+        }
+
+        #[test]
+        fn every_number_is_seen() {
+            let mut lent = Lent::new();
+            $($theme(&mut lent);)*
+            assert_eq!(lent.seen, [true; 21]);
+        }
+    };
+}
+
+themes! {
+    read_each_stream,
+    read_known_tables,
+    sessions_agree_with_whole_reads,
+    record_after_each_byte,
+    index_waits_for_its_last_bit,
+    empty_page_changes_nothing,
+    closed_once,
+    byte_after_a_complete_session,
+    unfit_records_are_left,
+    lent_refusals_and_closed_records,
+    lent_session_goes_on,
+    numbers_out_of_range,
+    rooms_one_entry_short,
+    entries_not_below_n,
+    links_not_their_own_inverse,
+    manifold_condition_by_pair_then_dart,
+    darts_not_reached,
+    first_fault_is_answered,
+    known_streams,
+    starts_at_and_past_the_end,
+    samples_there_and_back,
+    as_many_darts_as_allowed,
+    longest_stream,
+}
+
+// Reading: the streams.
+
+/// Name, bytes, entries of the tables lent; number and place; N and n.
+type Reading = (&'static str, &'static [u8], usize, u32, usize, usize, usize);
+
+static READINGS: &[Reading] = &[
+    // The examples of the requirements.
+    ("P1", &[0x10, 0x00, 0xA0], 2, 0, 0, 1, 1),
+    ("P2", &[0x10, 0x01, 0x50], 4, 0, 0, 1, 2),
+    ("P3", &[0x10, 0x05, 0x06, 0x00, 0xA0], 12, 0, 0, 1, 6),
+    ("P4", &[], 4, 11, 0, 0, 0),
+    ("P5", &[0x10, 0x01], 4, 11, 0, 0, 0),
+    ("P6", &[0x70, 0x00], 16, 1, 0, 0, 0),
+    ("P7", &[0x10, 0x00, 0x00], 2, 13, 0, 0, 0),
+    ("P8", &[0x10, 0x01, 0xA0], 4, 15, 2, 0, 0),
+    ("P9", &[0x10, 0x01, 0xC0, 0x00], 4, 12, 0, 0, 0),
+    ("P10", &[0x20, 0x02, 0xA2, 0x80], 9, 14, 8, 0, 0),
+    ("P11", &[0x30, 0x07, 0x45, 0x41, 0x80, 0x3D, 0x00], 32, 16, 32, 0, 0),
+    ("P12", &[0x10, 0x00, 0xA1], 2, 17, 2, 0, 0),
+    ("P13", &[0x10, 0x00, 0xA0, 0x00], 2, 18, 2, 0, 0),
+    // Longer rooms: nothing is written past (N+1)n.
+    ("P3, longer room", &[0x10, 0x05, 0x06, 0x00, 0xA0], 30, 0, 0, 1, 6),
+    ("P5, longer room", &[0x10, 0x01], 40, 11, 0, 0, 0),
+    ("P11, longer room", &[0x30, 0x07, 0x45, 0x41, 0x80, 0x3D, 0x00], 40, 16, 32, 0, 0),
+    ("paper's figure 9", &[0x20, 0x0B, 0x06, 0x00, 0xB4, 0x06, 0x01, 0x74], 40, 0, 0, 2, 12),
+    // A room one entry short, seen as soon as both header bytes are there and not before.
+    ("P5, short room", &[0x10, 0x01], 3, 3, 0, 0, 0),
+    ("P3, no room", &[0x10, 0x05, 0x06, 0x00, 0xA0], 0, 3, 0, 0, 0),
+    ("half a header, no room", &[0x10], 0, 11, 0, 0, 0),
+    ("greatest header, short room", &[0x6F, 0xFF], MAX_TABLES - 1, 3, 0, 0, 0),
+    ("greatest header", &[0x6F, 0xFF], MAX_TABLES, 11, 0, 0, 0),
+    // The dimension, not before the second byte and before the room.
+    ("half a bad header", &[0x70], 16, 11, 0, 0, 0),
+    ("dimension 0", &[0x00, 0x00], 0, 1, 0, 0, 0),
+    ("dimension 9", &[0x90, 0x01, 0xA0], 8, 1, 0, 0, 0),
+    ("dimension 15", &[0xFF, 0xFF, 0xFF], 8, 1, 0, 0, 0),
+    // Every dimension's lone dart; with four ranks the last symbol ends on a byte border and there is no fill.
+    ("lone dart in 2", &[0x20, 0x00, 0xA8], 3, 0, 0, 2, 1),
+    ("lone dart in 3", &[0x30, 0x00, 0xAA], 4, 0, 0, 3, 1),
+    ("lone dart in 4", &[0x40, 0x00, 0xAA, 0x80], 5, 0, 0, 4, 1),
+    ("lone dart in 5", &[0x50, 0x00, 0xAA, 0xA0], 6, 0, 0, 5, 1),
+    ("lone dart in 6", &[0x60, 0x00, 0xAA, 0xA8], 7, 0, 0, 6, 1),
+    ("no fill, a byte after", &[0x30, 0x00, 0xAA, 0x00], 4, 18, 4, 0, 0),
+    ("last fill bit", &[0x60, 0x00, 0xAA, 0xA9], 7, 17, 7, 0, 0),
+    // A named dart: judged once its twelve bits are in; not the dart itself (P9), not one without number, not one that is linked.
+    ("index not all there", &[0x10, 0x01, 0xFF], 4, 11, 0, 0, 0),
+    ("index without number", &[0x10, 0x02, 0x60, 0x0A], 6, 12, 2, 0, 0),
+    ("index linked already", &[0x10, 0x03, 0x18, 0x00, 0x00], 8, 12, 5, 0, 0),
+    // Disagreement with a larger i is found at the end, not at the step.
+    ("smallest 16", &[0x20, 0x03, 0x91, 0x58, 0x01, 0x80], 12, 16, 12, 0, 0),
+    // Of several faults at the end the first of 15, 16, 17, 18; a byte after the end is 18 whatever it holds.
+    ("15 before 17", &[0x10, 0x01, 0xA1, 0x00], 4, 15, 2, 0, 0),
+    ("16 before 17", &[0x30, 0x07, 0x45, 0x41, 0x80, 0x3D, 0x01], 32, 16, 32, 0, 0),
+    ("17 before 18", &[0x10, 0x00, 0xA1, 0x00], 2, 17, 2, 0, 0),
+    ("set bits after the end", &[0x10, 0x00, 0xA0, 0xFF], 2, 18, 2, 0, 0),
+];
+
+type Reply = Result<ReadAnswer, Refusal>;
+
+fn reading(steps: usize, dim: usize, darts: usize) -> Reply {
+    Ok(ReadAnswer { steps, dim, darts })
+}
+
+/// What one whole read gave, for the sessions to be held against.
+struct Whole {
+    answer: Reply,
+    tables: Vec<u16>,
+}
+
+fn read_whole(lent: &mut Lent, bytes: &[u8], room: usize) -> Whole {
+    lent.page.lend_copy(bytes);
+    lent.built.lend(room);
+    let answer = lent.read();
+    Whole { answer, tables: lent.built.at().to_vec() }
+}
+
+fn read_each_stream(lent: &mut Lent) {
+    for &(name, bytes, room, number, place, dim, darts) in READINGS {
+        lent.begin(name);
+        let whole = read_whole(lent, bytes, room);
+        let expected = if number == 0 { reading((dim + 1) * darts, dim, darts) } else { refused(number, place) };
+        lent.expect(whole.answer, expected);
+    }
+}
+
+fn expect_built(lent: &mut Lent, bytes: &[u8], tables: &[u16]) {
+    let whole = read_whole(lent, bytes, tables.len());
+    lent.must(whole.answer.is_ok() && whole.tables == tables, "the tables are those known");
+}
+
+/// P3's tables tell a walk that goes back to queue 0 after a new dart from one that does not; its answer and cells do not.
+fn read_known_tables(lent: &mut Lent) {
+    lent.begin("tables of P1 to P3");
+    expect_built(lent, &[0x10, 0x00, 0xA0], &[0, 0]);
+    expect_built(lent, &[0x10, 0x01, 0x50], &[1, 0, 0, 1]);
+    expect_built(lent, &[0x10, 0x05, 0x06, 0x00, 0xA0], &[1, 0, 3, 2, 5, 4, 2, 4, 0, 5, 1, 3]);
+}
+
+// Reading: sessions.
+
+fn give(lent: &mut Lent, bytes: &[u8]) -> Reply {
+    lent.page.lend_copy(bytes);
+    lent.page()
+}
+
+fn open_in(lent: &mut Lent, room: usize) {
+    lent.open();
+    lent.built.lend(room);
+}
+
+/// A session's fifteen numbers and its tables put away, another stream read in the same rooms, and both taken up again: nothing else
+/// belongs to a session.
+fn carry_elsewhere(lent: &mut Lent) {
+    let (record, tables) = (lent.record(), lent.built.at().to_vec());
+    open_in(lent, 4);
+    let other = give(lent, &[0x10, 0x01]);
+    lent.expect(other, reading(0, 1, 2));
+    lent.take_up(record);
+    lent.built.lend_copy(&tables);
+}
+
+/// A page that may be the last to be accepted: a refusal must be the whole read's.
+fn feed_page(lent: &mut Lent, bytes: &[u8], whole: &Whole) {
+    let answer = give(lent, bytes);
+    if answer.is_err() {
+        lent.expect(answer, whole.answer);
+    }
+}
+
+fn expect_close_as_whole(lent: &mut Lent, whole: &Whole) {
+    let answer = lent.close();
+    lent.expect(answer, whole.answer);
+    lent.must(lent.built.at() == whole.tables, "the tables are the whole read's");
+}
+
+/// Two pages, cut at each place, with the session carried over the cut.
+fn feed_cut_everywhere(lent: &mut Lent, bytes: &[u8], whole: &Whole) {
+    for cut in 0..=bytes.len() {
+        open_in(lent, whole.tables.len());
+        feed_page(lent, &bytes[..cut], whole);
+        carry_elsewhere(lent);
+        feed_page(lent, &bytes[cut..], whole);
+        expect_close_as_whole(lent, whole);
+    }
+}
+
+/// Pages of one size, with an empty page after each.
+fn feed_pages_of(lent: &mut Lent, bytes: &[u8], whole: &Whole, size: usize) {
+    open_in(lent, whole.tables.len());
+    for page in bytes.chunks(size) {
+        feed_page(lent, page, whole);
+        feed_page(lent, &[], whole);
+    }
+    expect_close_as_whole(lent, whole);
+}
+
+fn sessions_agree_with_whole_reads(lent: &mut Lent) {
+    for &(name, bytes, room, ..) in READINGS {
+        lent.begin(name);
+        let whole = read_whole(lent, bytes, room);
+        feed_cut_everywhere(lent, bytes, &whole);
+        for size in [1, 2, 3, 7] {
+            feed_pages_of(lent, bytes, &whole, size);
+        }
+    }
+}
+
+#[track_caller]
+fn expect_given(lent: &mut Lent, bytes: &[u8], answer: Reply, record: [u32; RECORD]) {
+    let given = give(lent, bytes);
+    lent.expect(given, answer);
+    lent.must(lent.record() == record, "the record is the one known");
+}
+
+#[track_caller]
+fn expect_page(lent: &mut Lent, bytes: &[u8], answer: Reply) {
+    let given = give(lent, bytes);
+    lent.expect(given, answer);
+}
+
+#[track_caller]
+fn expect_close(lent: &mut Lent, answer: Reply) {
+    let given = lent.close();
+    lent.expect(given, answer);
+}
+
+/// Every step is done that needs no bit beyond those seen, no more and no less.
+fn record_after_each_byte(lent: &mut Lent) {
+    lent.begin("record after each byte");
+    open_in(lent, 8);
+    expect_given(lent, &[0x10], reading(0, 0, 0), [0, 0, 0, 0, 0, 0, 0, 0, 0, 0, 0, 0, 0, 8, 0x10]);
+    expect_given(lent, &[0x03], reading(0, 1, 4), [1, 0, 0, 1, 4, 1, 0, 0, 0, 0, 0, 0, 0, 0, 0]);
+    expect_given(lent, &[0x18], reading(5, 1, 4), [1, 0, 0, 1, 4, 4, 4, 1, 0, 0, 0, 0, 0, 5, 0x18]);
+    expect_given(lent, &[0x00], reading(5, 1, 4), [1, 0, 0, 1, 4, 4, 4, 1, 0, 0, 0, 0, 0, 13, 0x1800]);
+    lent.must(lent.state() == Some(State::Running), "the session is running");
+    expect_close(lent, refused(11, 5));
+    expect_close(lent, refused(11, 5));
+    expect_page(lent, &[0x00], refused(11, 5));
+}
+
+fn index_waits_for_its_last_bit(lent: &mut Lent) {
+    lent.begin("index waits");
+    open_in(lent, 4);
+    expect_given(lent, &[0x10, 0x01, 0xC1], reading(0, 1, 2), [1, 0, 0, 1, 2, 1, 0, 0, 0, 0, 0, 0, 0, 8, 0xC1]);
+    expect_page(lent, &[0x00], refused(12, 0));
+}
+
+fn empty_page_changes_nothing(lent: &mut Lent) {
+    lent.begin("empty page");
+    open_in(lent, 4);
+    expect_page(lent, &[], reading(0, 0, 0));
+    for (bytes, steps) in [(&[0x10, 0x01][..], 0), (&[0x50], 4)] {
+        expect_page(lent, bytes, reading(steps, 1, 2));
+        let record = lent.record();
+        expect_given(lent, &[], reading(steps, 1, 2), record);
+        lent.must(lent.built.kept(), "the tables are kept");
+    }
+}
+
+fn closed_once(lent: &mut Lent) {
+    lent.begin("closed once");
+    open_in(lent, 4);
+    expect_given(lent, &[0x10, 0x01, 0x50], reading(4, 1, 2), [2, 0, 0, 1, 2, 2, 2, 2, 0, 0, 0, 0, 0, 0, 0]);
+    lent.must(lent.state() == Some(State::Complete), "the session is complete");
+    expect_close(lent, reading(4, 1, 2));
+    lent.must(lent.record() == [3, 0, 0, 1, 2, 2, 2, 2, 0, 0, 0, 0, 0, 0, 0], "the other numbers are kept");
+    expect_close(lent, refused(20, 0));
+    expect_page(lent, &[0x00], refused(20, 0));
+    expect_page(lent, &[], refused(20, 0));
+    lent.built.lend(0);
+    expect_close(lent, refused(20, 0));
+}
+
+fn byte_after_a_complete_session(lent: &mut Lent) {
+    lent.begin("byte after the end");
+    open_in(lent, 4);
+    expect_page(lent, &[0x10, 0x01, 0x50], reading(4, 1, 2));
+    expect_page(lent, &[0x00], refused(18, 4));
+    lent.must(lent.built.at() == [NO_LINK; 4], "the tables say no link");
+    expect_page(lent, &[], refused(18, 4));
+    expect_close(lent, refused(18, 4));
+}
+
+// Lent records: numbers and tables of any content.
+
+/// The numbers given, and 0 for all others.
+fn record_of(numbers: &[u32]) -> [u32; RECORD] {
+    let mut record = [0; RECORD];
+    record[..numbers.len()].copy_from_slice(numbers);
+    record
+}
+
+const NO: u16 = NO_LINK;
+
+/// Name, first numbers of the record, tables.
+static UNFIT: &[(&str, &[u32], &[u16])] = &[
+    ("state 5", &[5], &[]),
+    ("greatest state", &[u32::MAX], &[]),
+    ("refusal number in header state", &[0, 11], &[]),
+    ("refusal place in header state", &[0, 0, 1], &[]),
+    ("refusal number when closed", &[3, 20], &[]),
+    ("position 65536", &[3, 0, 0, 0, 0, 0, 65536], &[]),
+    ("last position 65536", &[3, 0, 0, 0, 0, 0, 0, 0, 0, 0, 0, 0, 65536], &[]),
+    ("value 65536 when refused", &[4, 11, 0, 0, 0, 0, 0, 0, 0, 0, 0, 0, 0, 0, 65536], &[]),
+    ("header with a count", &[0, 0, 0, 0, 0, 1], &[]),
+    ("header with 7 bits", &[0, 0, 0, 0, 0, 0, 0, 0, 0, 0, 0, 0, 0, 7, 1], &[]),
+    ("header with value past 8 bits", &[0, 0, 0, 0, 0, 0, 0, 0, 0, 0, 0, 0, 0, 8, 256], &[]),
+    ("no bits but a value", &[0, 0, 0, 0, 0, 0, 0, 0, 0, 0, 0, 0, 0, 0, 5], &[]),
+    ("refused by 0", &[4, 0, 0], &[]),
+    ("refused by 2", &[4, 2, 0], &[]),
+    ("refused by 10", &[4, 10, 0], &[]),
+    ("refused by 1 at 1", &[4, 1, 1], &[]),
+    ("refused by 3 at 1", &[4, 3, 1], &[]),
+    ("refused by 19", &[4, 19, 0], &[]),
+    ("refused by 20", &[4, 20, 0], &[]),
+    ("running in dimension 0", &[1, 0, 0, 0, 2, 1], &[NO, NO, NO, NO]),
+    ("running in dimension 7", &[1, 0, 0, 7, 2, 1], &[NO, NO, NO, NO]),
+    ("running without darts", &[1, 0, 0, 1, 0, 1], &[NO, NO, NO, NO]),
+    ("running with 4097 darts", &[1, 0, 0, 1, 4097, 1], &[NO, NO, NO, NO]),
+    ("running, short tables", &[1, 0, 0, 1, 2, 1], &[NO, NO, NO]),
+    ("count 0", &[1, 0, 0, 1, 2, 0], &[NO, NO, NO, NO]),
+    ("count above n", &[1, 0, 0, 1, 2, 3], &[NO, NO, NO, NO]),
+    ("position above count", &[1, 0, 0, 1, 2, 1, 2], &[0, 0, NO, NO]),
+    ("rising positions", &[1, 0, 0, 1, 2, 2, 1, 2], &[1, 0, 1, 0]),
+    ("position past N", &[1, 0, 0, 1, 2, 2, 2, 1, 1], &[1, 0, 0, NO]),
+    ("entry not below count", &[1, 0, 0, 1, 2, 1, 1, 0], &[1, NO, NO, NO]),
+    ("entry missing behind a position", &[1, 0, 0, 1, 2, 2, 1, 0], &[NO, NO, NO, NO]),
+    ("entry of a dart without number", &[1, 0, 0, 1, 2, 1, 0], &[NO, 0, NO, NO]),
+    ("next step known", &[1, 0, 0, 1, 2, 2, 1, 0], &[1, 0, NO, NO]),
+    ("14 waiting bits", &[1, 0, 0, 1, 2, 1, 0, 0, 0, 0, 0, 0, 0, 14, 0x3000], &[NO, NO, NO, NO]),
+    ("waiting bits of a whole symbol", &[1, 0, 0, 1, 2, 1, 0, 0, 0, 0, 0, 0, 0, 2, 2], &[NO, NO, NO, NO]),
+    ("complete with a step left", &[2, 0, 0, 1, 2, 2, 2, 1], &[1, 0, 0, NO]),
+    ("complete without its tables", &[2, 0, 0, 1, 2, 2, 2, 2], &[1, 0, NO, NO]),
+    ("complete with waiting bits", &[2, 0, 0, 1, 2, 2, 2, 2, 0, 0, 0, 0, 0, 1, 1], &[1, 0, 0, 1]),
+];
+
+fn unfit_records_are_left(lent: &mut Lent) {
+    for &(name, numbers, tables) in UNFIT {
+        lent.begin(name);
+        lent.take_up(record_of(numbers));
+        lent.built.lend_copy(tables);
+        expect_page(lent, &[0x80], refused(19, 0));
+        expect_page(lent, &[], refused(19, 0));
+        expect_close(lent, refused(19, 0));
+        lent.must(lent.state().is_some() == (numbers[0] <= 4), "only a record of another state has none");
+    }
+}
+
+/// Fit is asked of a refused record only in its number and place, and of a closed one nothing but sixteen bits.
+fn lent_refusals_and_closed_records(lent: &mut Lent) {
+    lent.begin("lent refusals");
+    lent.built.lend_copy(&[7; 4]);
+    lent.take_up([4, 11, 4_000_000_000, 9, 8, 7, 6, 5, 4, 3, 2, 1, 0, 65535, 65535]);
+    expect_page(lent, &[0x10, 0x01, 0x50], refused(11, 4_000_000_000));
+    expect_close(lent, refused(11, 4_000_000_000));
+    for number in 11..=18 {
+        lent.take_up(record_of(&[4, number, 3 * number]));
+        expect_page(lent, &[0x80], refused(number, 3 * number as usize));
+    }
+    lent.take_up([3, 0, 0, 9, 65535, 65535, 1, 2, 3, 4, 5, 6, 7, 65535, 65535]);
+    expect_page(lent, &[0x10, 0x01, 0x50], refused(20, 0));
+    expect_close(lent, refused(20, 0));
+}
+
+/// A fit session that no reading could leave is carried on by the same rules: here a0 is not its own inverse, and dimension 1 has no pair
+/// of ranks that the end could test.
+fn lent_session_goes_on(lent: &mut Lent) {
+    lent.begin("lent session goes on");
+    lent.take_up(record_of(&[1, 0, 0, 1, 2, 2, 2, 1]));
+    lent.built.lend_copy(&[0, 0, 0, NO]);
+    expect_page(lent, &[0x80], reading(4, 1, 2));
+    lent.must(lent.built.at() == [0, 0, 0, 1], "the last link is set");
+    expect_close(lent, reading(4, 1, 2));
+}
+
+// Posted maps: refusals.
+
+/// The three calls that take a map, refused alike.
+#[track_caller]
+fn all_refuse(lent: &mut Lent, m: Map, root: usize, number: u32, place: usize) {
+    lent.out.lend(9);
+    let checked = lent.check(m, root);
+    lent.expect(checked, refused(number, place));
+    let written = lent.write(m, root, 0);
+    lent.expect(written, refused(number, place));
+    if root == 0 {
+        let reported = lent.report(m);
+        lent.expect(reported, refused(number, place));
+    }
+}
+
+#[track_caller]
+fn accepts(lent: &mut Lent, m: Map, root: usize) {
+    let checked = lent.check(m, root);
+    lent.expect(checked, Ok(()));
+}
+
+/// Numbers whose lower half would pass are refused like any other.
+fn numbers_out_of_range(lent: &mut Lent) {
+    lent.begin("numbers out of range");
+    let m = post_ring(lent, 3);
+    for dim in [0, 7, 65536 + 1, WIDE, WIDE + 1, MOST] {
+        all_refuse(lent, Map { dim, ..m }, 0, 1, 0);
+    }
+    for darts in [0, MAX_DARTS + 1, 65536 + 6, WIDE, WIDE + 6, MOST] {
+        all_refuse(lent, Map { darts, ..m }, 0, 2, 0);
+    }
+    for root in [6, 65535, 65536, WIDE, WIDE + 1, MOST] {
+        all_refuse(lent, m, root, 5, 0);
+    }
+}
+
+fn rooms_one_entry_short(lent: &mut Lent) {
+    lent.begin("rooms one entry short");
+    let m = post_ring(lent, 3);
+    lent.posted.shorten(12);
+    lent.work.shorten(12);
+    accepts(lent, m, 0);
+    for length in [11, 0] {
+        lent.work.shorten(length);
+        all_refuse(lent, m, 0, 4, 0);
+    }
+    for length in [11, 0] {
+        lent.posted.shorten(length);
+        all_refuse(lent, m, 0, 3, 0);
+    }
+}
+
+fn entries_not_below_n(lent: &mut Lent) {
+    lent.begin("entries not below n");
+    let m = post_ring(lent, 3);
+    lent.posted.at_mut()[11] = NO_LINK;
+    all_refuse(lent, m, 0, 6, 11);
+    lent.posted.at_mut()[4] = 6;
+    all_refuse(lent, m, 0, 6, 4);
+    all_refuse(lent, m, 5, 6, 4);
+}
+
+/// The place is the first position that fails, not the entry one would mend.
+fn links_not_their_own_inverse(lent: &mut Lent) {
+    lent.begin("links not their own inverse");
+    let m = post_free(lent, 1, 2);
+    lent.posted.at_mut()[..2].copy_from_slice(&[1, 1]);
+    all_refuse(lent, m, 0, 7, 0);
+    let m = post_ring(lent, 3);
+    lent.posted.at_mut()[6 + 3] = 0;
+    all_refuse(lent, m, 0, 7, 6 + 3);
+}
+
+/// Ranks 0 and 3 break the condition at dart 4, ranks 1 and 3 at dart 0: the pair comes first, then the dart.
+fn manifold_condition_by_pair_then_dart(lent: &mut Lent) {
+    lent.begin("manifold condition");
+    let m = post_free(lent, 3, 7);
+    tie(lent, m, 1, 0, 1);
+    tie(lent, m, 3, 1, 2);
+    all_refuse(lent, m, 0, 8, 0);
+    tie(lent, m, 0, 4, 5);
+    tie(lent, m, 3, 5, 6);
+    all_refuse(lent, m, 0, 8, 4);
+}
+
+/// The least dart not reached from the root that was given; the report's root is dart 0.
+fn darts_not_reached(lent: &mut Lent) {
+    lent.begin("darts not reached");
+    let m = post_free(lent, 1, 2);
+    all_refuse(lent, m, 0, 9, 1);
+    all_refuse(lent, m, 1, 9, 0);
+    let m = post_squares(lent, 2);
+    all_refuse(lent, m, 0, 9, 8);
+    all_refuse(lent, m, 9, 9, 0);
+}
+
+/// A posting with the faults of 1 to 10, the first `mended` of them mended: the map, the root and the start to call with.
+fn post_faults(lent: &mut Lent, mended: usize) -> (Map, usize, usize) {
+    let m = post_free(lent, 2, 6);
+    tie(lent, m, 0, 0, 1);
+    tie(lent, m, 0, 2, 3);
+    tie(lent, m, 0, 4, 5);
+    tie(lent, m, 1, 1, 2);
+    if mended < 6 {
+        lent.posted.at_mut()[17] = 6;
+    }
+    if mended < 7 {
+        lent.posted.at_mut()[9] = 0;
+    }
+    if mended < 8 {
+        tie(lent, m, 2, 2, 4);
+    }
+    if mended >= 9 {
+        tie(lent, m, 1, 3, 4);
+    }
+    lent.work.shorten(if mended < 4 { 11 } else { 12 });
+    lent.posted.shorten(if mended < 3 { 17 } else { 18 });
+    let dim = if mended < 1 { 7 } else { 2 };
+    let darts = if mended < 2 { MAX_DARTS + 1 } else { 6 };
+    let root = if mended < 5 { MOST } else { 0 };
+    let start = if mended < 10 { MOST } else { 0 };
+    (Map { dim, darts }, root, start)
+}
+
+/// Of several faults the first in the order is answered, each test covering the whole tables before the next.
+fn first_fault_is_answered(lent: &mut Lent) {
+    lent.begin("first fault");
+    lent.out.lend(9);
+    for (mended, place) in [0, 0, 0, 0, 0, 17, 9, 2, 4].into_iter().enumerate() {
+        let number = mended as u32 + 1;
+        let (m, root, start) = post_faults(lent, mended);
+        let checked = lent.check(m, root);
+        lent.expect(checked, refused(number, place));
+        let written = lent.write(m, root, start);
+        lent.expect(written, refused(number, place));
+        let reported = lent.report(m);
+        lent.expect(reported, if number == 5 { refused(6, 17) } else { refused(number, place) });
+    }
+    let (m, root, start) = post_faults(lent, 9);
+    accepts(lent, m, root);
+    let reported = lent.report(m);
+    lent.must(reported.is_ok(), "the report is given");
+    let length = lent.write(m, root, 0).unwrap().length;
+    let written = lent.write(m, root, start);
+    lent.expect(written, refused(10, length));
+    let (m, root, start) = post_faults(lent, 10);
+    let written = lent.write(m, root, start);
+    lent.must(written.is_ok(), "nothing is left to mend");
+}
+
+// Posted maps: the writer.
+
+/// The whole stream of a posted map.
+#[track_caller]
+fn write_whole(lent: &mut Lent, m: Map, root: usize) -> Vec<u8> {
+    lent.out.lend(MAX_STREAM);
+    let WriteAnswer { written, length } = lent.write(m, root, 0).unwrap();
+    lent.must(written == length, "the stream is whole");
+    lent.out.at()[..length].to_vec()
+}
+
+#[track_caller]
+fn expect_stream(lent: &mut Lent, m: Map, root: usize, bytes: &[u8]) {
+    let stream = write_whole(lent, m, root);
+    lent.must(stream == bytes, "the stream is the one known");
+}
+
+fn known_streams(lent: &mut Lent) {
+    lent.begin("known streams");
+    let m = post_free(lent, 1, 1);
+    expect_stream(lent, m, 0, &[0x10, 0x00, 0xA0]);
+    let m = post_chain(lent, 1, 2);
+    expect_stream(lent, m, 0, &[0x10, 0x01, 0x50]);
+    let m = post_free(lent, 6, 1);
+    expect_stream(lent, m, 0, &[0x60, 0x00, 0xAA, 0xA8]);
+    let m = post_ring(lent, 3);
+    expect_stream(lent, m, 0, &[0x10, 0x05, 0x06, 0x00, 0xA0]);
+    expect_stream(lent, m, 3, &[0x10, 0x05, 0x06, 0x00, 0xA0]);
+    let m = post_chain(lent, 1, 3);
+    expect_stream(lent, m, 0, &[0x10, 0x02, 0x48]);
+    expect_stream(lent, m, 2, &[0x10, 0x02, 0x88]);
+}
+
+/// Pages of one size, each begun where the last one ended, join to the stream.
+fn write_pages_of(lent: &mut Lent, m: Map, root: usize, stream: &[u8], size: usize) {
+    let mut start = 0;
+    while start < stream.len() {
+        lent.out.lend(size);
+        let WriteAnswer { written, length } = lent.write(m, root, start).unwrap();
+        lent.must(length == stream.len() && written > 0, "the stream has its length");
+        lent.must(lent.out.at()[..written] == stream[start..start + written], "the page is the stream's");
+        start += written;
+    }
+}
+
+/// No sum of start and room is made before the start is found to be in the stream.
+fn starts_at_and_past_the_end(lent: &mut Lent) {
+    lent.begin("starts at and past the end");
+    let m = post_free(lent, 1, 1);
+    lent.out.lend(5);
+    for start in 0..=3 {
+        let written = lent.write(m, 0, start);
+        lent.expect(written, Ok(WriteAnswer { written: 3 - start, length: 3 }));
+    }
+    for start in [4, 65536, WIDE, WIDE + 1, MOST - 1, MOST] {
+        let written = lent.write(m, 0, start);
+        lent.expect(written, refused(10, 3));
+    }
+    lent.out.lend(0);
+    let written = lent.write(m, 0, 0);
+    lent.expect(written, Ok(WriteAnswer { written: 0, length: 3 }));
+    let written = lent.write(m, 0, 4);
+    lent.expect(written, refused(10, 3));
+}
+
+// Posted maps: there and back.
+
+/// Are the tables built from the stream the posted map's, each dart under its walk number?
+fn built_under(lent: &Lent, m: Map, numbers: &[u16]) -> bool {
+    let (posted, built) = (lent.posted.at(), lent.built.at());
+    (0..m.entries()).all(|k| {
+        let row = k - k % m.darts;
+        built[row + numbers[k % m.darts] as usize] == numbers[posted[k] as usize]
+    })
+}
+
+/// Check, write, read back; then the same by pages, of sizes that do not make too many of them. The stream and its tables.
+fn there_and_back(lent: &mut Lent, m: Map, root: usize) -> (Vec<u8>, Vec<u16>) {
+    accepts(lent, m, root);
+    let numbers = lent.work.at()[..m.darts].to_vec();
+    let stream = write_whole(lent, m, root);
+    lent.must(lent.work.at()[..m.darts] == numbers, "the writer numbers as the check does");
+    let whole = read_whole(lent, &stream, m.entries() + SPARE);
+    lent.expect(whole.answer, reading(m.entries(), m.dim, m.darts));
+    lent.must(built_under(lent, m, &numbers), "every link is the posted one");
+    if stream.len() < 64 {
+        feed_cut_everywhere(lent, &stream, &whole);
+    }
+    for size in [1, 2, 3, 7, 64, 5000] {
+        if stream.len() <= 200 * size {
+            write_pages_of(lent, m, root, &stream, size);
+            feed_pages_of(lent, &stream, &whole, size);
+        }
+    }
+    (stream, whole.tables)
+}
+
+/// Posts the tables that were built: from dart 0 they have the same stream, and the walk numbers the darts as they stand.
+fn post_what_was_built(lent: &mut Lent, m: Map, stream: &[u8], tables: &[u16]) {
+    lent.posted.at_mut()[..m.entries()].copy_from_slice(&tables[..m.entries()]);
+    expect_stream(lent, m, 0, stream);
+    let as_they_stand = lent.work.at()[..m.darts].iter().enumerate().all(|(d, k)| *k as usize == d);
+    lent.must(as_they_stand, "the darts are numbered as they stand");
+}
+
+#[track_caller]
+fn expect_report(lent: &mut Lent, &(_, _, cells, free, orientable): &Sample, m: Map) {
+    let reported = lent.report(m);
+    lent.expect(reported, Ok(ReportAnswer { cells, free, orientable }));
+}
+
+/// A sample from several roots; then what was read back last is posted in turn and reported.
+fn samples_there_and_back(lent: &mut Lent) {
+    for s in SAMPLES {
+        let &(name, post, ..) = s;
+        lent.begin(name);
+        let m = post(lent);
+        expect_report(lent, s, m);
+        there_and_back(lent, m, 0);
+        if m.darts > 2 {
+            there_and_back(lent, m, m.darts / 3);
+        }
+        if m.darts > 4 {
+            there_and_back(lent, m, m.darts / 2 + 1);
+        }
+        let (stream, tables) = there_and_back(lent, m, m.darts - 1);
+        post_what_was_built(lent, m, &stream, &tables);
+        expect_report(lent, s, m);
+    }
+}
+
+// Limits.
+
+fn as_many_darts_as_allowed(lent: &mut Lent) {
+    lent.begin("as many darts as allowed");
+    let m = post_chain(lent, 1, MAX_DARTS);
+    accepts(lent, m, MAX_DARTS - 1);
+    lent.posted.shorten(2 * MAX_DARTS - 1);
+    all_refuse(lent, m, 0, 3, 0);
+    let m = post_chain(lent, 1, MAX_DARTS + 1);
+    all_refuse(lent, m, 0, 2, 0);
+}
+
+/// The longest stream of a map within the limits, in rooms of exactly the stated sizes.
+fn longest_stream(lent: &mut Lent) {
+    lent.begin("longest stream");
+    let m = post_pairs(lent, MAX_DARTS);
+    lent.posted.shorten(MAX_TABLES);
+    lent.work.shorten(MAX_WORK);
+    let stream = write_whole(lent, m, 0);
+    lent.must(stream.len() == 14854, "the length is the longest");
+    let whole = read_whole(lent, &stream, MAX_TABLES);
+    lent.expect(whole.answer, reading(MAX_TABLES, 6, MAX_DARTS));
+    feed_pages_of(lent, &stream, &whole, 4096);
+    let short = read_whole(lent, &stream, MAX_TABLES - 1);
+    lent.expect(short.answer, refused(3, 0));
+}
