@@ -3,23 +3,22 @@
 use Prim.Native.Nat.{ℕ, zero, suc, _+_, _≤_, _<_}
 use mathlib.Core.Path.{_≡_, refl, ap, sym, subst, _∙_}
 use mathlib.Core.Logic.{_≢_}
-use mathlib.Core.Bool.{Bool, true, false, not, _&&_, _||_, cond}
+use mathlib.Core.Bool.{Bool, true, false, not, cond}
 use mathlib.Core.List.{List, [], _∷_, _++_}
 use native.Mathlib.Omega.{arith}
 use lib.ListN.{length, getD}
-use lib.Dec.{eqb, ltb, leb}
-use borrow.Author.Tests.{eq-eqb, ne-eqb, eqb-true, lt-ltb, le-ltb, lt-leb, le-leb, ltb-true, not-true, not-false}
+use lib.Dec.{eqb}
+use borrow.Author.Tests.{ne-eqb, lt-ltb, le-ltb, lt-leb, le-leb, ltb-true, not-true, not-false}
 use Rattle.rules.specs.declared.Session.{Session}
-use Rattle.rules.specs.declared.State.{State}
-use Rattle.rules.specs.declared.State.the-variants.{Header, Running, Complete, Closed, Refused}
+use Rattle.rules.specs.declared.State.the-variants.{Refused}
 use Rattle.rules.specs.declared.ReportAnswer.{ReportAnswer}
 use Rattle.rules.specs.Lists.{allBelow}
 use Rattle.rules.specs.Reading.{plainAnswer}
 use Rattle.rules.specs.Session.{Left}
 use Rattle.records.specs.declared.Paged.{Paged}
 use Rattle.records.specs.Lefts.{leftBy}
-use Rattle.rules.proofs.Lists.{and-left, and-right, both, all-below, below-all}
-use Rattle.exchange.specs.Stored.{readNumbers, reportNumbers, stateNumber, refusalNumber, refusalPlace, storedSession, stateBy, positionsBy, sessionBy, stateStands, narrowAt, standing, Lent, lent, stored, ifStanding, called}
+use Rattle.rules.proofs.Lists.{and-right, all-below}
+use Rattle.exchange.specs.Stored.{readNumbers, reportNumbers, stateNumber, refusalNumber, refusalPlace, storedSession, stateBy, sessionBy, stateStands, narrowAt, standing, lent, stored, ifStanding, called}
 
 -- k entries from i on
 entries : ℕ → ℕ → List ℕ → List ℕ
@@ -116,9 +115,9 @@ module _ (r : List ℕ) (x : Bool) (ex : x ≡ stateStands (getD r 0 0) (getD r 
 
 -- a session's call on a stored session
 module _ (f : Session → Left) (r t : List ℕ) (x : Bool) (ex : x ≡ standing r) where
-  pub not-standing : not x ≡ true → lent r (19 ∷ 0 ∷ 0 ∷ 0 ∷ 0 ∷ []) t ≡ called f r t
-  unfolding called ifStanding plainAnswer
-  not-standing q = rw (sym ex ∙ not-true x q)
+  pub not-standing : not x ≡ true → (a : List ℕ) → a ≡ readNumbers (plainAnswer 19 0) → lent r a t ≡ called f r t
+  unfolding called ifStanding
+  not-standing q a ea = rw (sym ex ∙ not-true x q, ea) refl
 
   pub by-session : not x ≡ false → (s : Session) → s ≡ sessionBy r → (p : Paged) (t' : List ℕ) → leftBy p t' ≡ f s → (k a : List ℕ) → k ≡ storedSession (p .session) → a ≡ readNumbers (p .answer) → lent k a t' ≡ called f r t
   unfolding called ifStanding stored leftBy

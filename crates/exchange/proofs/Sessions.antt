@@ -3,7 +3,7 @@
 use Prim.Native.Nat.{ℕ, zero, suc, _+_, _≤_, _<_, _^_}
 use mathlib.Core.Path.{_≡_, refl, ap, sym, _∙_}
 use mathlib.Core.Logic.{_⊎_, inl, inr}
-use mathlib.Core.Bool.{Bool, true, false, _&&_}
+use mathlib.Core.Bool.{Bool, true, _&&_}
 use mathlib.Core.List.{List, [], _∷_, _++_, append-nil, append-assoc}
 use native.Mathlib.Omega.{arith}
 use native.Mathlib.Decide.{decLe}
@@ -14,7 +14,6 @@ use borrow.Author.Tests.{lt-ltb, eqb-true, leb-true}
 use Rattle.rules.specs.declared.Session.{Session}
 use Rattle.rules.specs.declared.State.{State}
 use Rattle.rules.specs.declared.State.the-variants.{Header, Running, Complete, Closed, Refused}
-use Rattle.rules.specs.Lists.{allBelow}
 use Rattle.rules.specs.Stream.{value, unpack}
 use Rattle.rules.specs.Walk.{Walk}
 use Rattle.rules.specs.Reading.{Reading, readingOf, readHeader, answerOf, tablesOf, readWhole, readAnswer, readTables}

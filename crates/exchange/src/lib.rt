@@ -11,7 +11,7 @@ ghost use lib.ListN.{getD};
 ghost use Rattle.rules.specs.Lists.{allBelow};
 ghost use Rattle.rules.specs.Check.{checkAnswer, checkWork};
 ghost use Rattle.rules.specs.Writing.{writeAnswer, writeWork, writeOut};
-ghost use Rattle.rules.specs.Reading.{readAnswer, readTables};
+ghost use Rattle.rules.specs.Reading.{plainAnswer, readAnswer, readTables};
 ghost use Rattle.rules.specs.Report.{reportAnswer, reportWork};
 ghost use Rattle.rules.specs.Session.{opened};
 ghost use Rattle.exchange.specs.Stored.{checkNumbers, writeNumbers, readNumbers, reportNumbers, stateNumber, refusalNumber, refusalPlace, storedSession, stateBy, positionsBy, sessionBy, stateStands, narrowAt, standing, lent, pageLent, closeLent};
@@ -21,6 +21,13 @@ pub fn read_numbers(a: ReadAnswer) -> [u32; 5]
     ensures { λ r. ⌜ r ≡ readNumbers a ⌝ }
 {
     [a.number, a.place, a.steps, a.dim, a.darts]
+}
+
+// The answer on a record that is no fit session.
+pub fn unfit_numbers() -> [u32; 5]
+    ensures { λ r. ⌜ r ≡ readNumbers (plainAnswer 19 0) ⌝ }
+{
+    [19, 0, 0, 0, 0]
 }
 
 // 1 for true, 0 for false.
@@ -306,7 +313,7 @@ pub extern "C" fn kz_page(
 {
     let given = *kept;
     if !stands(given) {
-        *answer = [19, 0, 0, 0, 0];
+        *answer = unfit_numbers();
         return 19;
     }
     let p = reader::page(session_of(given), bytes, tables);
@@ -324,13 +331,13 @@ pub extern "C" fn kz_close(kept: &mut [u32; 15], tables: &mut [u16], answer: &mu
 {
     let given = *kept;
     if !stands(given) {
-        *answer = [19, 0, 0, 0, 0];
+        *answer = unfit_numbers();
         return 19;
     }
     let p = reader::close(session_of(given), tables);
-    let session = p.session;
+    let closed = p.session;
     let a = p.answer;
-    *kept = stored_session(session);
+    *kept = stored_session(closed);
     *answer = read_numbers(a);
     a.number
 }

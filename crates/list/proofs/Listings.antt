@@ -1,6 +1,6 @@
 -- What the listing of a whole read is: the map's text where the stream is accepted, else the refusal's line. Rests on the rules' Sound and Check.
-use Prim.Native.Nat.{ℕ, _*_, _≤_, _<_}
-use mathlib.Core.Path.{_≡_, refl, ap, _∙_}
+use Prim.Native.Nat.{ℕ, _*_, _≤_}
+use mathlib.Core.Path.{_≡_, refl}
 use mathlib.Core.Logic.{_≢_}
 use mathlib.Core.List.{List}
 use lib.ListN.{length}
@@ -8,12 +8,11 @@ use borrow.Author.Tests.{eq-eqb, ne-eqb}
 use Rattle.rules.specs.declared.ReadAnswer.{ReadAnswer}
 use Rattle.rules.specs.declared.ReportAnswer.{ReportAnswer}
 use Rattle.rules.specs.Check.{Verdict, verdict}
-use Rattle.rules.specs.Map.{Limits}
 use Rattle.rules.specs.Reading.{readAnswer, readTables}
 use Rattle.rules.specs.Report.{cellCounts, freePairs, reportAnswer, reportAnswerOf}
-use Rattle.rules.proofs.Check.{Passes, passes-fine}
+use Rattle.rules.proofs.Check.{passes-fine}
 use Rattle.rules.proofs.Codes.{Bytes}
-use Rattle.rules.proofs.Sound.{Accepted, sound}
+use Rattle.rules.proofs.Sound.{sound}
 use Rattle.text.specs.Listing.{refusalLine, mapText, textBy, listing}
 
 module _ (bytes t work : List ℕ) where

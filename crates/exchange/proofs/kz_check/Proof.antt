@@ -1,12 +1,10 @@
-use mathlib.Core.Path.{_≡_, refl, ap, sym, _∙_}
-use Rattle.exchange.specs.Stored.{checkNumbers}
-use Rattle.rules.specs.declared.CheckAnswer.{CheckAnswer}
+-- `exchange::kz_check` meets its contract: the check's own, as stored. Assumes nothing.
+use mathlib.Core.Path.{ap}
 use borrow.Author.Needs.{needs}
+use Rattle.rules.specs.declared.CheckAnswer.{CheckAnswer}
+use Rattle.exchange.specs.Stored.{checkNumbers}
 use Rattle.exchange.proofs.kz_check.Statement.{statement}
 use Rattle.exchange.proofs.kz_check.Tie as tie
-use Rattle.exchange.proofs.kz_check.Reads as reads
-use Rattle.exchange.proofs.kz_check.Lts as lts
-use Rattle.walk.proofs.check.Reads as check-reads
 
 check-requires : tie.Need-check-requires
 check-requires c κs = search needs

@@ -1,12 +1,9 @@
+-- `exchange::kz_open` meets its contract: a new session, as stored. Assumes nothing.
 use mathlib.Core.Path.{ap, _∙_}
-use Rattle.exchange.specs.Stored.{storedSession}
 use borrow.Author.Needs.{needs}
+use Rattle.exchange.specs.Stored.{storedSession}
 use Rattle.exchange.proofs.kz_open.Statement.{statement}
 use Rattle.exchange.proofs.kz_open.Tie as tie
-use Rattle.exchange.proofs.kz_open.Reads as reads
-use Rattle.exchange.proofs.kz_open.Lts as lts
-use Rattle.exchange.proofs.stored_session.Reads as stored-session-reads
-use Rattle.rules.proofs.Session.open.Reads as open-reads
 
 open-requires : tie.Need-open-requires
 open-requires c κs = search needs

@@ -1,29 +1,28 @@
+-- `exchange::kz_page` meets its contract: 19 where no session stands for the record, else the page on that session, as stored. Assumes nothing.
 use Prim.Native.Nat.{ℕ}
-use mathlib.Core.Path.{_≡_, refl, ap, sym, _∙_}
+use mathlib.Core.Path.{ap, sym, _∙_}
 use mathlib.Core.List.{List}
 use lib.ListN.{getD}
 use borrow.Author.Tests.{not-false}
-use Rattle.exchange.specs.Stored.{pageLent}
 use borrow.Author.Needs.{needs}
+use Rattle.rules.specs.Reading.{plainAnswer}
+use Rattle.exchange.specs.Stored.{pageLent}
 use Rattle.exchange.proofs.Laws.{not-standing, by-session}
 use Rattle.exchange.proofs.kz_page.Statement.{statement}
 use Rattle.exchange.proofs.kz_page.Tie as tie
-use Rattle.exchange.proofs.kz_page.Reads as reads
-use Rattle.exchange.proofs.kz_page.Lts as lts
-use Rattle.exchange.proofs.read_numbers.Reads as read-numbers-reads
-use Rattle.exchange.proofs.session_of.Reads as session-of-reads
-use Rattle.exchange.proofs.stands.Reads as stands-reads
-use Rattle.exchange.proofs.stored_session.Reads as stored-session-reads
-use Rattle.reader.proofs.page.Reads as page-reads
 
 stands-requires : tie.Need-stands-requires
 stands-requires c κs = search needs
 
+unfit-numbers-requires : tie.Need-unfit-numbers-requires
+unfit-numbers-requires c κs = search needs
+
 returns : tie.Need-returns
-unfolding pageLent
+unfolding pageLent plainAnswer
 returns c =
     let a = c .before .before .before .before .before .before in
-    (not-standing (λ s. Rattle.rules.specs.Session.page s (a .args .bytes .now) (a .args .tables .now)) (a .args .kept .now) (a .args .tables .now) _ (c .before .before .stands .ensures) (c .before .if1 .taken), refl)
+    let u = c .unfit-numbers .ensures in
+    (not-standing (λ s. Rattle.rules.specs.Session.page s (a .args .bytes .now) (a .args .tables .now)) (a .args .kept .now) (a .args .tables .now) _ (c .before .before .stands .ensures) (c .before .if1 .taken) _ u, sym (ap (λ (l : List ℕ). getD l 0 0) u))
 
 session-of-requires : tie.Need-session-of-requires
 session-of-requires c κs = sym (c .before .stands .ensures) ∙ not-false _ (c .if1 .left)
@@ -51,6 +50,7 @@ kz-page-spec =
     tie.close
     (tie.spec
     stands-requires
+    unfit-numbers-requires
     returns
     session-of-requires
     page-requires

@@ -1,13 +1,10 @@
-use mathlib.Core.Path.{_≡_, refl, ap, sym, _∙_}
-use Rattle.exchange.specs.Stored.{readNumbers}
-use Rattle.rules.specs.declared.ReadAnswer.{ReadAnswer}
+-- `exchange::kz_read` meets its contract: the whole read's own, as stored. Assumes nothing.
+use mathlib.Core.Path.{ap, _∙_}
 use borrow.Author.Needs.{needs}
+use Rattle.rules.specs.declared.ReadAnswer.{ReadAnswer}
+use Rattle.exchange.specs.Stored.{readNumbers}
 use Rattle.exchange.proofs.kz_read.Statement.{statement}
 use Rattle.exchange.proofs.kz_read.Tie as tie
-use Rattle.exchange.proofs.kz_read.Reads as reads
-use Rattle.exchange.proofs.kz_read.Lts as lts
-use Rattle.exchange.proofs.read_numbers.Reads as read-numbers-reads
-use Rattle.reader.proofs.read.Reads as read-reads
 
 read-requires : tie.Need-read-requires
 read-requires c κs = search needs

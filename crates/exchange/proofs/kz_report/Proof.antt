@@ -1,13 +1,10 @@
-use mathlib.Core.Path.{_≡_, refl, ap, sym, _∙_}
-use Rattle.exchange.specs.Stored.{reportNumbers}
-use Rattle.rules.specs.declared.ReportAnswer.{ReportAnswer}
+-- `exchange::kz_report` meets its contract: the report's own, as stored. Assumes nothing.
+use mathlib.Core.Path.{ap, _∙_}
 use borrow.Author.Needs.{needs}
+use Rattle.rules.specs.declared.ReportAnswer.{ReportAnswer}
+use Rattle.exchange.specs.Stored.{reportNumbers}
 use Rattle.exchange.proofs.kz_report.Statement.{statement}
 use Rattle.exchange.proofs.kz_report.Tie as tie
-use Rattle.exchange.proofs.kz_report.Reads as reads
-use Rattle.exchange.proofs.kz_report.Lts as lts
-use Rattle.exchange.proofs.report_numbers.Reads as report-numbers-reads
-use Rattle.report.proofs.report.Reads as report-reads
 
 report-requires : tie.Need-report-requires
 report-requires c κs = search needs

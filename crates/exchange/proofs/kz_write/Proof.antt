@@ -1,12 +1,10 @@
-use mathlib.Core.Path.{_≡_, refl, ap, sym, _∙_}
-use Rattle.exchange.specs.Stored.{writeNumbers}
-use Rattle.rules.specs.declared.WriteAnswer.{WriteAnswer}
+-- `exchange::kz_write` meets its contract: the writer's own, as stored. Assumes nothing.
+use mathlib.Core.Path.{ap}
 use borrow.Author.Needs.{needs}
+use Rattle.rules.specs.declared.WriteAnswer.{WriteAnswer}
+use Rattle.exchange.specs.Stored.{writeNumbers}
 use Rattle.exchange.proofs.kz_write.Statement.{statement}
 use Rattle.exchange.proofs.kz_write.Tie as tie
-use Rattle.exchange.proofs.kz_write.Reads as reads
-use Rattle.exchange.proofs.kz_write.Lts as lts
-use Rattle.writer.proofs.write.Reads as write-reads
 
 write-requires : tie.Need-write-requires
 write-requires c κs = search needs

@@ -1,12 +1,10 @@
-use Rattle.exchange.specs.Stored.{positionsBy}
+-- `exchange::positions_of` meets its contract: seven numbers of a record that stands, each narrow. Assumes nothing.
 use native.Mathlib.Omega.{arith}
 use borrow.Author.Needs.{needs}
+use Rattle.exchange.specs.Stored.{positionsBy}
 use Rattle.exchange.proofs.Laws.{below}
 use Rattle.exchange.proofs.positions_of.Statement.{statement}
 use Rattle.exchange.proofs.positions_of.Tie as tie
-use Rattle.exchange.proofs.positions_of.Reads as reads
-use Rattle.exchange.proofs.positions_of.Lts as lts
-use Rattle.exchange.proofs.slim.Reads as slim-reads
 
 array-read-slim : tie.Need-array-read-slim
 array-read-slim c = search needs

@@ -1,14 +1,10 @@
-use Rattle.exchange.specs.Stored.{sessionBy}
+-- `exchange::session_of` meets its contract: the numbers of a record that stands, each narrow. Assumes nothing.
 use native.Mathlib.Omega.{arith}
 use borrow.Author.Needs.{needs}
+use Rattle.exchange.specs.Stored.{sessionBy}
 use Rattle.exchange.proofs.Laws.{below}
 use Rattle.exchange.proofs.session_of.Statement.{statement}
 use Rattle.exchange.proofs.session_of.Tie as tie
-use Rattle.exchange.proofs.session_of.Reads as reads
-use Rattle.exchange.proofs.session_of.Lts as lts
-use Rattle.exchange.proofs.positions_of.Reads as positions-of-reads
-use Rattle.exchange.proofs.slim.Reads as slim-reads
-use Rattle.exchange.proofs.state_of.Reads as state-of-reads
 
 array-read-state-of : tie.Need-array-read-state-of
 array-read-state-of c = search needs

@@ -1,11 +1,8 @@
+-- `exchange::stands` meets its contract: the state stands, and the numbers after it are narrow. Assumes nothing.
 use borrow.Author.Needs.{needs}
 use Rattle.exchange.proofs.Laws.{no-state, by-numbers}
 use Rattle.exchange.proofs.stands.Statement.{statement}
 use Rattle.exchange.proofs.stands.Tie as tie
-use Rattle.exchange.proofs.stands.Reads as reads
-use Rattle.exchange.proofs.stands.Lts as lts
-use Rattle.exchange.proofs.narrow.Reads as narrow-reads
-use Rattle.exchange.proofs.state_stands.Reads as state-stands-reads
 
 array-read-state-stands : tie.Need-array-read-state-stands
 array-read-state-stands c = search needs

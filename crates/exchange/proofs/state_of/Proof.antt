@@ -1,10 +1,9 @@
+-- `exchange::state_of` meets its contract: past the four other states only a refusal is left. Assumes nothing.
 use native.Mathlib.Omega.{arith}
 use borrow.Author.Needs.{needs}
 use Rattle.exchange.proofs.Laws.{refused-by}
 use Rattle.exchange.proofs.state_of.Statement.{statement}
 use Rattle.exchange.proofs.state_of.Tie as tie
-use Rattle.exchange.proofs.state_of.Reads as reads
-use Rattle.exchange.proofs.state_of.Lts as lts
 
 returns : tie.Need-returns
 returns c = search needs

@@ -1,8 +1,7 @@
+-- `exchange::state_stands` meets its contract: each answer is what the tests before it leave. Assumes nothing.
 use Rattle.exchange.proofs.Laws.{over, four, numbered, placed}
 use Rattle.exchange.proofs.state_stands.Statement.{statement}
 use Rattle.exchange.proofs.state_stands.Tie as tie
-use Rattle.exchange.proofs.state_stands.Reads as reads
-use Rattle.exchange.proofs.state_stands.Lts as lts
 
 returns : tie.Need-returns
 returns c = over _ _ _ (c .if1 .taken)

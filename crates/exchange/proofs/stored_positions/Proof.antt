@@ -1,3 +1,4 @@
+-- `exchange::stored_positions` meets its contract: seven numbers, each as it was. Assumes nothing.
 use mathlib.Core.Path.{_≡_}
 use native.Mathlib.Omega.{arith}
 use lib.ListN.{length}
@@ -5,9 +6,6 @@ use borrow.Author.Needs.{needs}
 use Rattle.exchange.proofs.Laws.{seven}
 use Rattle.exchange.proofs.stored_positions.Statement.{statement}
 use Rattle.exchange.proofs.stored_positions.Tie as tie
-use Rattle.exchange.proofs.stored_positions.Reads as reads
-use Rattle.exchange.proofs.stored_positions.Lts as lts
-use Rattle.exchange.proofs.wide.Reads as wide-reads
 
 array-read-wide : tie.Need-array-read-wide
 array-read-wide c = search needs

@@ -1,15 +1,10 @@
+-- `exchange::stored_session` meets its contract: the numbers of the record in their order. Assumes nothing.
 use mathlib.Core.Path.{_≡_, sym, _∙_}
 use lib.ListN.{length, length-map}
 use borrow.Author.Needs.{needs}
 use Rattle.exchange.proofs.Laws.{stored-by}
 use Rattle.exchange.proofs.stored_session.Statement.{statement}
 use Rattle.exchange.proofs.stored_session.Tie as tie
-use Rattle.exchange.proofs.stored_session.Reads as reads
-use Rattle.exchange.proofs.stored_session.Lts as lts
-use Rattle.exchange.proofs.refusal_number.Reads as refusal-number-reads
-use Rattle.exchange.proofs.refusal_place.Reads as refusal-place-reads
-use Rattle.exchange.proofs.state_number.Reads as state-number-reads
-use Rattle.exchange.proofs.stored_positions.Reads as stored-positions-reads
 
 stored-positions-requires : tie.Need-stored-positions-requires
 stored-positions-requires c κs = search needs

@@ -1,16 +1,9 @@
 -- `list::print` is safe: a report with number 0 is of tables within the limits, which the text needs. Assumes nothing.
 use native.Mathlib.Omega.{arith}
-use Rattle.report.proofs.Answers.{reported}
 use borrow.Author.Needs.{needs}
+use Rattle.report.proofs.Answers.{reported}
 use Rattle.list.proofs.print.Statement.{statement}
 use Rattle.list.proofs.print.Tie as tie
-use Rattle.list.proofs.print.Reads as reads
-use Rattle.list.proofs.print.Lts as lts
-use Rattle.io.proofs.write_all.Reads as write-all-reads
-use Rattle.list.proofs.text_room.Reads as text-room-reads
-use Rattle.list.proofs.work_room.Reads as work-room-reads
-use Rattle.report.proofs.report.Reads as report-reads
-use Rattle.text.proofs.listing.Reads as listing-reads
 
 work-room-requires : tie.Need-work-room-requires
 work-room-requires c κs = search needs

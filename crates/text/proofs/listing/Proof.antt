@@ -1,12 +1,9 @@
+-- `text::listing` meets its contract: the text that the two numbers ask for. Assumes nothing.
 use native.Mathlib.Omega.{arith}
 use borrow.Author.Needs.{needs}
 use Rattle.text.proofs.Laws.{listed, refused-reading, refused-report, read-map}
 use Rattle.text.proofs.listing.Statement.{statement}
 use Rattle.text.proofs.listing.Tie as tie
-use Rattle.text.proofs.listing.Reads as reads
-use Rattle.text.proofs.listing.Lts as lts
-use Rattle.text.proofs.put_map.Reads as put-map-reads
-use Rattle.text.proofs.put_refusal.Reads as put-refusal-reads
 
 put-refusal-requires : tie.Need-put-refusal-requires
 put-refusal-requires c κs = search needs

@@ -1,13 +1,10 @@
+-- `text::put_cells` meets its contract: one text after the other. Assumes nothing.
 use native.Mathlib.Omega.{arith}
-use Rattle.text.specs.Listing.{cellsLine}
 use borrow.Author.Needs.{needs}
+use Rattle.text.specs.Listing.{cellsLine}
 use Rattle.text.proofs.Laws.{wrote-then}
 use Rattle.text.proofs.put_cells.Statement.{statement}
 use Rattle.text.proofs.put_cells.Tie as tie
-use Rattle.text.proofs.put_cells.Reads as reads
-use Rattle.text.proofs.put_cells.Lts as lts
-use Rattle.text.proofs.put.Reads as put-reads
-use Rattle.text.proofs.put_counts.Reads as put-counts-reads
 
 slice-aggregate-put : tie.Need-slice-aggregate-put
 slice-aggregate-put c = search needs

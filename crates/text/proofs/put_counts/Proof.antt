@@ -3,8 +3,7 @@ use Prim.Native.Nat.{suc, _+_, _-_, _≤_}
 use mathlib.Core.Path.{_≡_, refl, ap, _∙_}
 use native.Mathlib.Omega.{arith}
 use lib.ListN.{length, getD}
-use Rattle.rules.specs.Map.{link}
-use Rattle.text.specs.Listing.{spaced, links, dartLine, dartLines}
+use Rattle.text.specs.Listing.{spaced}
 use Rattle.text.proofs.Laws.{Row, row-none, row-next, row-end}
 use Rattle.text.proofs.put_counts.Statement.{statement}
 use Rattle.text.proofs.put_counts.Tie as tie

@@ -1,14 +1,10 @@
+-- `text::put_dart` meets its contract: one text after the other. Assumes nothing.
 use native.Mathlib.Omega.{arith}
-use Rattle.text.specs.Listing.{dartLine}
 use borrow.Author.Needs.{needs}
+use Rattle.text.specs.Listing.{dartLine}
 use Rattle.text.proofs.Laws.{wrote-then}
 use Rattle.text.proofs.put_dart.Statement.{statement}
 use Rattle.text.proofs.put_dart.Tie as tie
-use Rattle.text.proofs.put_dart.Reads as reads
-use Rattle.text.proofs.put_dart.Lts as lts
-use Rattle.text.proofs.put.Reads as put-reads
-use Rattle.text.proofs.put_links.Reads as put-links-reads
-use Rattle.text.proofs.put_number.Reads as put-number-reads
 
 put-number-requires : tie.Need-put-number-requires
 put-number-requires c κs = search needs

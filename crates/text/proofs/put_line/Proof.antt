@@ -1,14 +1,11 @@
+-- `text::put_line` meets its contract: one text after the other. Assumes nothing.
 use mathlib.Core.List.{append-assoc}
 use native.Mathlib.Omega.{arith}
-use Rattle.text.specs.Listing.{spaced, lineEnd}
 use borrow.Author.Needs.{needs}
+use Rattle.text.specs.Listing.{spaced, lineEnd}
 use Rattle.text.proofs.Laws.{wrote-then, wrote-same}
 use Rattle.text.proofs.put_line.Statement.{statement}
 use Rattle.text.proofs.put_line.Tie as tie
-use Rattle.text.proofs.put_line.Reads as reads
-use Rattle.text.proofs.put_line.Lts as lts
-use Rattle.text.proofs.put.Reads as put-reads
-use Rattle.text.proofs.put_named.Reads as put-named-reads
 
 put-named-requires : tie.Need-put-named-requires
 put-named-requires c κs = search needs

@@ -2,9 +2,9 @@
 use Prim.Native.Nat.{suc, _+_, _-_, _≤_}
 use mathlib.Core.Path.{_≡_, refl, ap, _∙_}
 use native.Mathlib.Omega.{arith}
-use lib.ListN.{length, getD}
+use lib.ListN.{length}
 use Rattle.rules.specs.Map.{link}
-use Rattle.text.specs.Listing.{spaced, links, dartLine, dartLines}
+use Rattle.text.specs.Listing.{spaced, links}
 use Rattle.text.proofs.Laws.{Row, row-none, row-next, row-end}
 use Rattle.text.proofs.put_links.Statement.{statement}
 use Rattle.text.proofs.put_links.Tie as tie

@@ -1,17 +1,11 @@
+-- `text::put_map` meets its contract: one text after the other, in room for the longest. Assumes nothing.
 use mathlib.Core.Path.{refl}
 use native.Mathlib.Omega.{arith}
-use Rattle.text.specs.Listing.{mapText, firstLine, freeLine, stepsLine}
 use borrow.Author.Needs.{needs}
+use Rattle.text.specs.Listing.{mapText, firstLine, freeLine, stepsLine}
 use Rattle.text.proofs.Laws.{wrote-then, wrote-same}
 use Rattle.text.proofs.put_map.Statement.{statement}
 use Rattle.text.proofs.put_map.Tie as tie
-use Rattle.text.proofs.put_map.Reads as reads
-use Rattle.text.proofs.put_map.Lts as lts
-use Rattle.text.proofs.put_cells.Reads as put-cells-reads
-use Rattle.text.proofs.put_darts.Reads as put-darts-reads
-use Rattle.text.proofs.put_line.Reads as put-line-reads
-use Rattle.text.proofs.put_pair.Reads as put-pair-reads
-use Rattle.text.proofs.wide.Reads as wide-reads
 
 slice-aggregate-put-pair : tie.Need-slice-aggregate-put-pair
 slice-aggregate-put-pair c = search needs

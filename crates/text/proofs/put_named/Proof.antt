@@ -1,12 +1,9 @@
+-- `text::put_named` meets its contract: one text after the other. Assumes nothing.
 use native.Mathlib.Omega.{arith}
 use borrow.Author.Needs.{needs}
 use Rattle.text.proofs.Laws.{wrote-then}
 use Rattle.text.proofs.put_named.Statement.{statement}
 use Rattle.text.proofs.put_named.Tie as tie
-use Rattle.text.proofs.put_named.Reads as reads
-use Rattle.text.proofs.put_named.Lts as lts
-use Rattle.text.proofs.put.Reads as put-reads
-use Rattle.text.proofs.put_spaced.Reads as put-spaced-reads
 
 put-requires : tie.Need-put-requires
 put-requires c κs = search needs

@@ -1,3 +1,4 @@
+-- `text::put_number` meets its contract: the kit's digits are the numeral. Assumes nothing.
 use mathlib.Core.Path.{_∙_}
 use native.Mathlib.Omega.{arith}
 use borrow.Author.Needs.{needs}
@@ -5,10 +6,6 @@ use Rattle.text.proofs.Laws.{wrote-same}
 use Rattle.text.proofs.Numerals.{few-digits, numeral-digits}
 use Rattle.text.proofs.put_number.Statement.{statement}
 use Rattle.text.proofs.put_number.Tie as tie
-use Rattle.text.proofs.put_number.Reads as reads
-use Rattle.text.proofs.put_number.Lts as lts
-use Rattle.io.proofs.decimal.Reads as decimal-reads
-use Rattle.text.proofs.put.Reads as put-reads
 
 decimal-requires : tie.Need-decimal-requires
 decimal-requires c κs = search needs

@@ -1,16 +1,13 @@
+-- `text::put_pair` meets its contract: one text after the other. Assumes nothing.
 use Prim.Native.Nat.{ℕ}
 use mathlib.Core.Path.{ap, _∙_}
 use mathlib.Core.List.{List, _++_, append-assoc}
 use native.Mathlib.Omega.{arith}
-use Rattle.text.specs.Listing.{spaced, lineEnd}
 use borrow.Author.Needs.{needs}
+use Rattle.text.specs.Listing.{spaced, lineEnd}
 use Rattle.text.proofs.Laws.{wrote-then, wrote-same}
 use Rattle.text.proofs.put_pair.Statement.{statement}
 use Rattle.text.proofs.put_pair.Tie as tie
-use Rattle.text.proofs.put_pair.Reads as reads
-use Rattle.text.proofs.put_pair.Lts as lts
-use Rattle.text.proofs.put.Reads as put-reads
-use Rattle.text.proofs.put_named.Reads as put-named-reads
 
 put-named-requires : tie.Need-put-named-requires
 put-named-requires c κs = search needs

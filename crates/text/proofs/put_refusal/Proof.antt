@@ -1,13 +1,10 @@
+-- `text::put_refusal` meets its contract: one line of two words. Assumes nothing.
 use mathlib.Core.Path.{refl}
-use Rattle.text.specs.Listing.{refusalLine}
 use borrow.Author.Needs.{needs}
+use Rattle.text.specs.Listing.{refusalLine}
 use Rattle.text.proofs.Laws.{wrote-same}
 use Rattle.text.proofs.put_refusal.Statement.{statement}
 use Rattle.text.proofs.put_refusal.Tie as tie
-use Rattle.text.proofs.put_refusal.Reads as reads
-use Rattle.text.proofs.put_refusal.Lts as lts
-use Rattle.text.proofs.put_pair.Reads as put-pair-reads
-use Rattle.text.proofs.wide.Reads as wide-reads
 
 slice-aggregate-put-pair : tie.Need-slice-aggregate-put-pair
 slice-aggregate-put-pair c = search needs

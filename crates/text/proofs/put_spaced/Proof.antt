@@ -1,13 +1,10 @@
+-- `text::put_spaced` meets its contract: one text after the other. Assumes nothing.
 use native.Mathlib.Omega.{arith}
-use Rattle.text.specs.Listing.{spaced}
 use borrow.Author.Needs.{needs}
+use Rattle.text.specs.Listing.{spaced}
 use Rattle.text.proofs.Laws.{wrote-then}
 use Rattle.text.proofs.put_spaced.Statement.{statement}
 use Rattle.text.proofs.put_spaced.Tie as tie
-use Rattle.text.proofs.put_spaced.Reads as reads
-use Rattle.text.proofs.put_spaced.Lts as lts
-use Rattle.text.proofs.put.Reads as put-reads
-use Rattle.text.proofs.put_number.Reads as put-number-reads
 
 slice-aggregate-put : tie.Need-slice-aggregate-put
 slice-aggregate-put c = search needs
