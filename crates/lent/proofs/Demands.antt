@@ -1,0 +1,35 @@
+-- Demand 3 over a lent record: what calls leave that meet the contracts of `lent::page` and `lent::close`. Each is such a call by value, so the reader's Demands say it.
+use Prim.Native.Nat.{ℕ}
+use mathlib.Core.Path.{_≡_}
+use mathlib.Core.List.{List, [], _∷_}
+use Rattle.rules.specs.declared.Session.{Session}
+use Rattle.rules.specs.declared.ReadAnswer.{ReadAnswer}
+use Rattle.rules.specs.Stream.{unpack}
+use Rattle.rules.specs.Reading.{readingOf, answerOf, readAnswer, readTables}
+use Rattle.rules.specs.Session.{Left, page, close, recordFor, tablesFor}
+use Rattle.rules.proofs.Sessions.{whole, opening}
+use Rattle.records.specs.Lefts.{leftBy}
+use Rattle.reader.proofs.Demands.{Fed, fed-record, fed-read}
+use Rattle.lent.specs.Lent.{lentBy}
+
+-- pages given in order to one lent record, with the tables as each call has left them, each call meeting the contract of `page`
+pub data Lent : List (List ℕ) → Left → Left → Type 0 where
+  none : {x : Left} → Lent [] x x
+  more : {p : List ℕ} {ps : List (List ℕ)} {x z : Left} (s : Session) (a : ReadAnswer) (u : List ℕ) → lentBy s a u ≡ page (x .session) p (x .tables) → Lent ps (lentBy s a u) z → Lent (p ∷ ps) x z
+
+-- they are pages by value
+fed : {ps : List (List ℕ)} {x z : Left} → Lent ps x z → Fed ps x z
+unfolding leftBy
+fed Lent.none = Fed.none
+fed (Lent.more s a u e f) = Fed.more (record { session = s; answer = a }) u e (fed f)
+
+-- after each page the lent record is the one for the bytes so far, and so are the answer and the tables
+pub lent-record : (ps : List (List ℕ)) (t : List ℕ) (z : Left) → Lent ps (opening t) z
+    → z ≡ record { session = recordFor (whole ps) t; answer = answerOf (readingOf (unpack (whole ps)) t); tables = tablesFor (whole ps) t }
+lent-record ps t z f = fed-record ps t z (fed f)
+
+-- pages from open, then one call that meets the contract of `close`: answer and tables of one call that meets the contract of `read`
+pub lent-read : (ps : List (List ℕ)) (t : List ℕ) (z : Left) → Lent ps (opening t) z → (s : Session) (c : ReadAnswer) (v : List ℕ) → lentBy s c v ≡ close (z .session) (z .tables)
+    → (a : ReadAnswer) (u : List ℕ) → (a ≡ readAnswer (whole ps) t) × (u ≡ readTables (whole ps) t) → (c ≡ a) × (v ≡ u)
+unfolding leftBy
+lent-read ps t z f s c v e a u h = fed-read ps t z (fed f) (record { session = s; answer = c }) v e a u h

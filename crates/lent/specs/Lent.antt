@@ -1,0 +1,10 @@
+-- What a call over a lent record leaves, as the rules tell it: the record, the answer and the tables in one.
+use Prim.Native.Nat.{ℕ}
+use mathlib.Core.List.{List}
+use Rattle.rules.specs.declared.Session.{Session}
+use Rattle.rules.specs.declared.ReadAnswer.{ReadAnswer}
+use Rattle.rules.specs.Session.{Left}
+
+-- the record, the answer and the tables as they stand
+abbrev pub lentBy : Session → ReadAnswer → List ℕ → Left
+lentBy s a t = record { session = s; answer = a; tables = t }
