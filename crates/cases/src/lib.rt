@@ -2,4 +2,3 @@
 pub mod checking;
 pub mod reading;
 pub mod reports;
-pub mod writing;

@@ -1,10 +1,8 @@
 // Runs the vectors of five files through the library's public calls, and says of each file how many cases it has and how many differ.
-mod sessions;
 
 use cases::checking;
 use cases::reading;
 use cases::reports;
-use cases::writing;
 use feed::lines;
 use feed::lines::Feed;
 use feed::rooms;

@@ -1,8 +1,8 @@
--- `cases::writing::numbered` is safe and ends. The measure is the darts that are left. Assumes nothing.
+-- `writing::numbered` is safe and ends. The measure is the darts that are left. Assumes nothing.
 use Prim.Native.Nat.{_-_}
 use borrow.Author.Needs.{needs}
-use Rattle.cases.proofs.writing.numbered.Statement.{statement}
-use Rattle.cases.proofs.writing.numbered.Tie as tie
+use Rattle.writing.proofs.numbered.Statement.{statement}
+use Rattle.writing.proofs.numbered.Tie as tie
 
 abbrev Inv-loop : tie.InvT-loop
 Inv-loop work darts root dart₀ dart = Unit {0}

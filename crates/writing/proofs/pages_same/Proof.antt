@@ -1,10 +1,10 @@
--- `cases::writing::pages_same` is safe and ends. The measure is what is left of the stream: each page that goes on ends further on. Assumes nothing.
+-- `writing::pages_same` is safe and ends. The measure is what is left of the stream: each page that goes on ends further on. Assumes nothing.
 use Prim.Native.Nat.{_-_}
 use borrow.Author.Needs.{needs}
 use lib.ListN.{length}
 use mathlib.Core.Path.{_≡_}
-use Rattle.cases.proofs.writing.pages_same.Statement.{statement}
-use Rattle.cases.proofs.writing.pages_same.Tie as tie
+use Rattle.writing.proofs.pages_same.Statement.{statement}
+use Rattle.writing.proofs.pages_same.Tie as tie
 
 abbrev Inv-loop : tie.InvT-loop
 Inv-loop p tables work₀ out₀ stream start₀ work out start = (length work ≡ length work₀) × (length out ≡ length out₀)

@@ -1,10 +1,10 @@
--- `cases::writing::sizes_same` is safe and ends. The measure is the sizes that are left. Assumes nothing.
+-- `writing::sizes_same` is safe and ends. The measure is the sizes that are left. Assumes nothing.
 use Prim.Native.Nat.{_-_}
 use borrow.Author.Needs.{needs}
 use lib.ListN.{length}
 use mathlib.Core.Path.{_≡_}
-use Rattle.cases.proofs.writing.sizes_same.Statement.{statement}
-use Rattle.cases.proofs.writing.sizes_same.Tie as tie
+use Rattle.writing.proofs.sizes_same.Statement.{statement}
+use Rattle.writing.proofs.sizes_same.Tie as tie
 
 abbrev Inv-loop : tie.InvT-loop
 Inv-loop p tables work₀ out₀ stream k₀ work out k = (length work ≡ length work₀) × (length out ≡ length out₀)
