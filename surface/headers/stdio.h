@@ -2,4 +2,5 @@
 #ifndef SURFACE_STDIO_H
 #define SURFACE_STDIO_H
 int printf(const char *format, ...);
+int putchar(int byte);
 #endif

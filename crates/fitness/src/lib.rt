@@ -81,7 +81,7 @@ pub fn positions_past(dim: usize, positions: [u16; 7]) -> bool
     ensures { λ r. ⌜ r ≡ allBelow 7 (overAt dim positions) ⌝ }
 {
     let mut i = dim + 1;
-    while i < 7 {
+    while i < Session::RANKS {
         if positions[i] != 0 {
             return false;
         }
@@ -145,7 +145,7 @@ pub fn walk_fits(s: Session, tables: &[u16]) -> bool
     if darts < 1 {
         return false;
     }
-    if 4096 < darts {
+    if Session::DARTS < darts {
         return false;
     }
     if tables.len() < (dim + 1) * darts {
@@ -188,7 +188,7 @@ pub fn asks(dim: usize, darts: usize, stand: Stand, tables: &[u16]) -> bool
 pub fn begins(bits: u16, value: u16) -> bool
     ensures { λ r. ⌜ r ≡ (leb bits 13 && ltb value (2 ^ bits) && Rattle.rules.specs.Session.begins (bitsOf bits value)) ⌝ }
 {
-    if 13 < bits {
+    if Session::WAITING < bits {
         return false;
     }
     if bits == 0 {

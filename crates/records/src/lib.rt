@@ -69,7 +69,7 @@ pub fn steps_of(positions: [u16; 7]) -> u32
 {
     let mut sum: u32 = 0;
     let mut i = 0;
-    while i < 7 {
+    while i < Session::RANKS {
         sum += positions[i] as u32;
         i += 1;
     }

@@ -1,5 +1,5 @@
 -- Laws of the report's answer: what the check's answer says of its verdict, and what the report then answers and leaves. Rests on the rules' Check.
-use Prim.Native.Nat.{ℕ, _*_}
+use Prim.Native.Nat.{ℕ, _*_, _≤_}
 use mathlib.Core.Path.{_≡_, refl, ap, sym, _∙_}
 use mathlib.Core.Logic.{_≢_}
 use mathlib.Core.Bool.{Bool, false}
@@ -72,3 +72,25 @@ reported N n t w a ea h = go (verdict N n 0 t (length w)) refl (sym (ap (λ (x :
     go : (v : Verdict) → verdict N n 0 t (length w) ≡ v → reportAnswerOf N n t v .number ≡ 0 → Passes N n 0 t (length w)
     go Verdict.fine e z = fine-passes N n 0 t (length w) e
     go (Verdict.refused nr p) e z = absurd (case-some (refused-case N n 0 t (length w) nr p e .0) z)
+
+-- the report takes root 0, which is a dart wherever n is within the limits: it never gives 5
+rootless-case : {N n room nr p : ℕ} {t : List ℕ} → Case N n 0 t room nr p → nr ≡ 5 → n ≤ 0
+rootless-case (Case.dims h) e = absurd (omega arith)
+rootless-case (Case.darts h) e = absurd (omega arith)
+rootless-case (Case.tables h) e = absurd (omega arith)
+rootless-case (Case.work h) e = absurd (omega arith)
+rootless-case (Case.rootless h) e = h
+rootless-case (Case.entry i d F) e = absurd (omega arith)
+rootless-case (Case.inverse i d F) e = absurd (omega arith)
+rootless-case (Case.manifold k d F) e = absurd (omega arith)
+rootless-case (Case.unreachable d L) e = absurd (omega arith)
+
+pub report-rooted : (N n : ℕ) (t w : List ℕ) → reportAnswer N n t w .number ≢ 5
+unfolding reportAnswer reportAnswerOf
+report-rooted N n t w = go (verdict N n 0 t (length w)) refl
+  where
+    go : (v : Verdict) → verdict N n 0 t (length w) ≡ v → reportAnswerOf N n t v .number ≢ 5
+    go Verdict.fine e z = absurd (omega arith)
+    go (Verdict.refused nr p) e z =
+        let (c, none) = refused-case N n 0 t (length w) nr p e in
+        none 2 0 (omega arith) (Case.darts (λ h. omega (arith, rootless-case c z, h .0)))

@@ -292,7 +292,7 @@ pub fn misfit(dim: usize, darts: usize, root: usize, tables: usize, work: usize)
     if darts < 1 {
         return 2;
     }
-    if 4096 < darts {
+    if Session::DARTS < darts {
         return 2;
     }
     if tables < (dim + 1) * darts {

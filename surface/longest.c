@@ -1,0 +1,68 @@
+/*
+ * The longest stream and its listing, for a test of the listing program over several pages: N 6 and n 4,096, a0 to a4 one pairing, a5
+ * and a6 a path over the pairs.
+ *
+ *   longest stream    its bytes
+ *   longest text      what the listing program is to print for them
+ */
+#include "kanzhulet.h"
+#include <stdio.h>
+
+enum { DIM = 6, DARTS = 4096, ENTRIES = (DIM + 1) * DARTS };
+
+static uint16_t map[ENTRIES], built[ENTRIES], work[2 * DARTS];
+static uint8_t stream[KZ_MAX_STREAM];
+
+/* a5 joins the pairs 2k and 2k+1, a6 the pairs 2k+1 and 2k+2; a6 joins a pair at an end of the path within. */
+static uint16_t along(unsigned rank, unsigned dart)
+{
+    unsigned pair = dart / 2, last = DARTS / 2 - 1;
+    int upwards = (pair + rank) % 2 == 1;
+    if (rank == 6 && (pair == 0 || pair == last))
+        return (uint16_t)(dart ^ 1);
+    return (uint16_t)(upwards ? dart + 2 : dart - 2);
+}
+
+static void post(void)
+{
+    for (unsigned i = 0; i <= DIM; i++)
+        for (unsigned d = 0; d < DARTS; d++)
+            map[i * DARTS + d] = i < 5 ? (uint16_t)(d ^ 1) : along(i, d);
+}
+
+static void print_stream(uint32_t length)
+{
+    for (uint32_t k = 0; k < length; k++)
+        putchar(stream[k]);
+}
+
+static int print_text(uint32_t length)
+{
+    uint32_t read[KZ_READ_ANSWER], report[KZ_REPORT_ANSWER];
+    if (kz_read(stream, length, built, ENTRIES, read) != 0 || kz_report(DIM, DARTS, built, ENTRIES, work, 2 * DARTS, report) != 0)
+        return 1;
+    printf("dimension %u darts %u\n", (unsigned)read[3], (unsigned)read[4]);
+    for (unsigned d = 0; d < DARTS; d++) {
+        printf("%u", d);
+        for (unsigned i = 0; i <= DIM; i++)
+            printf(" %u", (unsigned)built[i * DARTS + d]);
+        printf("\n");
+    }
+    printf("cells");
+    for (unsigned i = 0; i <= DIM; i++)
+        printf(" %u", (unsigned)report[2 + i]);
+    printf("\nfree %u\nsteps %u\n", (unsigned)report[9], (unsigned)read[2]);
+    return 0;
+}
+
+int main(int count, char **words)
+{
+    uint32_t written[KZ_WRITE_ANSWER];
+    post();
+    if (count != 2 || kz_write(DIM, DARTS, 0, 0, map, ENTRIES, work, 2 * DARTS, stream, KZ_MAX_STREAM, written) != 0)
+        return 1;
+    if (words[1][0] == 't')
+        return print_text(written[3]);
+    print_stream(written[3]);
+    return 0;
+}

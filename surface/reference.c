@@ -1,0 +1,660 @@
+#include "reference.h"
+#include <string.h>
+
+enum { NO_LINK = 65535, MAX_STREAM = 50178 };
+
+enum { CHECK_ANSWER = 2, WRITE_ANSWER = 4, READ_ANSWER = 5, REPORT_ANSWER = 11 };
+
+/* A map, posted or built. ai(d) stands at links[i * darts + d]. */
+struct map {
+    uint32_t dim, darts;
+    const uint16_t *links;
+};
+
+struct fault {
+    uint32_t number, place;
+};
+
+static const struct fault no_fault = { 0, 0 };
+
+static const uint16_t *links_of_rank(const struct map *map, uint32_t rank)
+{
+    return map->links + rank * map->darts;
+}
+
+/* An answer of which only number and place are not 0. */
+static uint32_t answer_fault(uint32_t *answer, size_t length, struct fault fault)
+{
+    memset(answer, 0, length * sizeof *answer);
+    answer[0] = fault.number;
+    answer[1] = fault.place;
+    return fault.number;
+}
+
+static void fill_no_link(uint16_t *entries, size_t length)
+{
+    for (size_t k = 0; k < length; k++)
+        entries[k] = NO_LINK;
+}
+
+/* Queues. A number enters each queue once, so a ring of REF_DARTS numbers is never too full. */
+
+static void empty_queues(struct ref_queue *queues)
+{
+    for (int j = 0; j < REF_RANKS; j++)
+        queues[j].head = queues[j].tail = 0;
+}
+
+static void enter(struct ref_queue *queue, uint32_t number)
+{
+    queue->numbers[queue->tail++ % REF_DARTS] = (uint16_t)number;
+}
+
+static uint32_t head_of(const struct ref_queue *queue)
+{
+    return queue->numbers[queue->head % REF_DARTS];
+}
+
+/* The rank of the lowest queue that is not empty; above dim if all are. */
+static uint32_t lowest_rank(const struct ref_queue *queues, uint32_t dim)
+{
+    uint32_t j = 0;
+    while (j <= dim && queues[j].head == queues[j].tail)
+        j++;
+    return j;
+}
+
+/* The head of queue j has been treated and goes on to the next queue. */
+static void pass_on(struct ref_queue *queues, uint32_t j, uint32_t dim)
+{
+    uint32_t number = head_of(&queues[j]);
+    queues[j].head++;
+    if (j < dim)
+        enter(&queues[j + 1], number);
+}
+
+/* Tests of a map. */
+
+enum { PAIRS = 15 };
+
+/* The pairs of ranks that commute, by the second, then the first. A dimension uses those up to it. */
+static const struct {
+    uint32_t i, j;
+} pairs[PAIRS] = {
+    { 0, 2 }, { 0, 3 }, { 1, 3 }, { 0, 4 }, { 1, 4 }, { 2, 4 }, { 0, 5 }, { 1, 5 },
+    { 2, 5 }, { 3, 5 }, { 0, 6 }, { 1, 6 }, { 2, 6 }, { 3, 6 }, { 4, 6 },
+};
+
+static struct fault test_numbers(uint64_t dim, uint64_t darts, uint64_t root, size_t tables_length, size_t work_length)
+{
+    struct fault fault = no_fault;
+    if (dim < 1 || dim >= REF_RANKS)
+        fault.number = 1;
+    else if (darts < 1 || darts > REF_DARTS)
+        fault.number = 2;
+    else if (tables_length < (dim + 1) * darts)
+        fault.number = 3;
+    else if (work_length < 2 * darts)
+        fault.number = 4;
+    else if (root >= darts)
+        fault.number = 5;
+    return fault;
+}
+
+static struct fault test_entries(const struct map *map)
+{
+    for (uint32_t p = 0; p < (map->dim + 1) * map->darts; p++)
+        if (map->links[p] >= map->darts)
+            return (struct fault){ 6, p };
+    return no_fault;
+}
+
+static struct fault test_inverse(const struct map *map)
+{
+    for (uint32_t i = 0; i <= map->dim; i++) {
+        const uint16_t *ai = links_of_rank(map, i);
+        for (uint32_t d = 0; d < map->darts; d++)
+            if (ai[ai[d]] != d)
+                return (struct fault){ 7, i * map->darts + d };
+    }
+    return no_fault;
+}
+
+static struct fault test_manifold(const struct map *map)
+{
+    for (int k = 0; k < PAIRS && pairs[k].j <= map->dim; k++) {
+        const uint16_t *ai = links_of_rank(map, pairs[k].i), *aj = links_of_rank(map, pairs[k].j);
+        for (uint32_t d = 0; d < map->darts; d++)
+            if (aj[ai[aj[ai[d]]]] != d)
+                return (struct fault){ 8, d };
+    }
+    return no_fault;
+}
+
+static struct fault test_tables(const struct map *map)
+{
+    struct fault fault = test_entries(map);
+    if (fault.number == 0)
+        fault = test_inverse(map);
+    if (fault.number == 0)
+        fault = test_manifold(map);
+    return fault;
+}
+
+/* The stream's bits, most significant first. */
+
+struct stream {
+    uint8_t bytes[MAX_STREAM];
+    size_t length;
+    uint32_t bits, bit_count; /* the bits that do not fill a byte yet */
+};
+
+static void put_bits(struct stream *stream, uint32_t value, uint32_t width)
+{
+    stream->bits = stream->bits << width | value;
+    stream->bit_count += width;
+    while (stream->bit_count >= 8) {
+        stream->bit_count -= 8;
+        stream->bytes[stream->length++] = (uint8_t)(stream->bits >> stream->bit_count);
+    }
+}
+
+static void begin_stream(struct stream *stream, const struct map *map)
+{
+    stream->length = 0;
+    stream->bits = stream->bit_count = 0;
+    put_bits(stream, map->dim, 4);
+    put_bits(stream, map->darts - 1, 12);
+}
+
+static void end_stream(struct stream *stream)
+{
+    if (stream->bit_count > 0)
+        put_bits(stream, 0, 8 - stream->bit_count);
+}
+
+/* The walk over a posted map. */
+
+struct walk {
+    struct ref_queue queues[REF_RANKS];
+    uint8_t known[REF_RANKS * REF_DARTS]; /* by rank, then dart, as the links */
+    uint16_t *number_of, *dart_of;        /* walk number of a dart, dart of a walk number */
+    uint32_t count;                       /* darts that have a walk number */
+    struct stream *stream;                /* for the symbols; none for the check */
+};
+
+static void number_dart(struct walk *walk, uint32_t dart)
+{
+    walk->number_of[dart] = (uint16_t)walk->count;
+    walk->dart_of[walk->count] = (uint16_t)dart;
+    enter(&walk->queues[0], walk->count);
+    walk->count++;
+}
+
+static void write_symbol(struct walk *walk, uint32_t value, uint32_t width)
+{
+    if (walk->stream != NULL)
+        put_bits(walk->stream, value, width);
+}
+
+/* A link that is neither known nor deduced: its symbol, and a number for a new dart. */
+static void tell_link(struct walk *walk, uint32_t dart, uint32_t partner)
+{
+    if (partner == dart) {
+        write_symbol(walk, 2, 2);
+    } else if (walk->number_of[partner] == NO_LINK) {
+        write_symbol(walk, 0, 1);
+        number_dart(walk, partner);
+    } else {
+        write_symbol(walk, 3u << 12 | walk->number_of[partner], 14);
+    }
+}
+
+/* Is the link of rank j known for some ai(dart), i <= j-2? */
+static int deducible(const struct map *map, const uint8_t *known, uint32_t j, uint32_t dart)
+{
+    for (uint32_t i = 0; i + 2 <= j; i++)
+        if (known[links_of_rank(map, i)[dart]])
+            return 1;
+    return 0;
+}
+
+static void step(const struct map *map, struct walk *walk, uint32_t j)
+{
+    uint8_t *known = walk->known + j * map->darts;
+    uint32_t dart = walk->dart_of[head_of(&walk->queues[j])];
+    uint32_t partner = links_of_rank(map, j)[dart];
+    if (!known[dart]) {
+        if (!deducible(map, known, j, dart))
+            tell_link(walk, dart, partner);
+        known[dart] = known[partner] = 1;
+    }
+    pass_on(walk->queues, j, map->dim);
+}
+
+/* The walk from a root. The work room gets the numbering, the stream its bytes. */
+static void walk_map(const struct map *map, uint32_t root, uint16_t *work, struct stream *stream, struct walk *walk)
+{
+    uint32_t j;
+    empty_queues(walk->queues);
+    memset(walk->known, 0, (size_t)(map->dim + 1) * map->darts);
+    fill_no_link(work, 2 * map->darts);
+    walk->number_of = work;
+    walk->dart_of = work + map->darts;
+    walk->count = 0;
+    walk->stream = stream;
+    number_dart(walk, root);
+    while ((j = lowest_rank(walk->queues, map->dim)) <= map->dim)
+        step(map, walk, j);
+}
+
+/* A posted map, tested and numbered. */
+struct posting {
+    uint64_t dim, darts, root;
+    const uint16_t *tables;
+    size_t tables_length;
+    uint16_t *work;
+    size_t work_length;
+};
+
+static struct fault first_not_reached(uint16_t *work, uint32_t darts)
+{
+    struct fault fault = { 9, 0 };
+    while (work[fault.place] != NO_LINK)
+        fault.place++;
+    fill_no_link(work, 2 * darts);
+    return fault;
+}
+
+/* Refusals 1 to 9; if there is none the work room holds the numbering and the stream is written. */
+static struct fault check_posting(const struct posting *p, struct stream *stream)
+{
+    static struct walk walk;
+    struct fault fault = test_numbers(p->dim, p->darts, p->root, p->tables_length, p->work_length);
+    if (fault.number != 0)
+        return fault;
+    struct map map = { (uint32_t)p->dim, (uint32_t)p->darts, p->tables };
+    fault = test_tables(&map);
+    if (fault.number != 0)
+        return fault;
+    if (stream != NULL)
+        begin_stream(stream, &map);
+    walk_map(&map, (uint32_t)p->root, p->work, stream, &walk);
+    if (walk.count < map.darts)
+        return first_not_reached(p->work, map.darts);
+    if (stream != NULL)
+        end_stream(stream);
+    return no_fault;
+}
+
+uint32_t ref_check(uint64_t dim, uint64_t darts, uint64_t root, const uint16_t *tables, size_t tables_length, uint16_t *work,
+                   size_t work_length, uint32_t *answer)
+{
+    struct posting posting = { dim, darts, root, tables, tables_length, work, work_length };
+    return answer_fault(answer, CHECK_ANSWER, check_posting(&posting, NULL));
+}
+
+uint32_t ref_write(uint64_t dim, uint64_t darts, uint64_t root, uint64_t start, const uint16_t *tables, size_t tables_length,
+                   uint16_t *work, size_t work_length, uint8_t *out, size_t out_length, uint32_t *answer)
+{
+    static struct stream stream;
+    struct posting posting = { dim, darts, root, tables, tables_length, work, work_length };
+    struct fault fault = check_posting(&posting, &stream);
+    if (fault.number == 0 && start > stream.length)
+        fault = (struct fault){ 10, (uint32_t)stream.length };
+    answer_fault(answer, WRITE_ANSWER, fault);
+    if (fault.number != 0)
+        return fault.number;
+    size_t written = stream.length - (size_t)start;
+    if (written > out_length)
+        written = out_length;
+    memcpy(out, stream.bytes + start, written);
+    answer[2] = (uint32_t)written;
+    answer[3] = (uint32_t)stream.length;
+    return 0;
+}
+
+/* Reading. */
+
+struct page {
+    const uint8_t *bytes;
+    size_t length, at;
+};
+
+/* What a step came to. */
+enum { DONE = 0, WAITS = 255 /* for more bits; any other is a refusal number */ };
+
+/* Takes bytes from the page until so many bits wait. */
+static int have_bits(struct ref_session *session, struct page *page, uint32_t wanted)
+{
+    while (session->bit_count < wanted) {
+        if (page->at == page->length)
+            return 0;
+        session->bits = session->bits << 8 | page->bytes[page->at++];
+        session->bit_count += 8;
+    }
+    return 1;
+}
+
+static uint32_t first_bits(const struct ref_session *session, uint32_t width)
+{
+    return session->bits >> (session->bit_count - width);
+}
+
+static void drop_bits(struct ref_session *session, uint32_t width)
+{
+    session->bit_count -= width;
+    session->bits &= (1u << session->bit_count) - 1;
+}
+
+static uint32_t read_new(struct ref_session *session, uint32_t *partner)
+{
+    drop_bits(session, 1);
+    if (session->count == session->darts)
+        return 13;
+    *partner = session->count++;
+    enter(&session->queues[0], *partner);
+    return DONE;
+}
+
+static uint32_t read_named(struct ref_session *session, const uint16_t *aj, uint32_t b, uint32_t *partner)
+{
+    *partner = first_bits(session, 14) & 4095;
+    drop_bits(session, 14);
+    return *partner < session->count && *partner != b && aj[*partner] == NO_LINK ? DONE : 12;
+}
+
+/* The symbol for aj(b). */
+static uint32_t read_symbol(struct ref_session *session, struct page *page, const uint16_t *aj, uint32_t b, uint32_t *partner)
+{
+    if (!have_bits(session, page, 1))
+        return WAITS;
+    if (first_bits(session, 1) == 0)
+        return read_new(session, partner);
+    if (!have_bits(session, page, 2))
+        return WAITS;
+    if (first_bits(session, 2) == 2) {
+        drop_bits(session, 2);
+        *partner = b;
+        return DONE;
+    }
+    if (!have_bits(session, page, 14))
+        return WAITS;
+    return read_named(session, aj, b, partner);
+}
+
+/* The partner aj(b) that a lower rank gives or else a symbol. */
+static uint32_t find_partner(struct ref_session *session, struct page *page, const uint16_t *tables, uint32_t j, uint32_t b,
+                             uint32_t *partner)
+{
+    const uint16_t *aj = tables + j * session->darts;
+    for (uint32_t i = 0; i + 2 <= j; i++) {
+        const uint16_t *ai = tables + i * session->darts;
+        uint32_t across = aj[ai[b]];
+        if (across != NO_LINK) {
+            *partner = ai[across];
+            return aj[*partner] == NO_LINK ? DONE : 14;
+        }
+    }
+    return read_symbol(session, page, aj, b, partner);
+}
+
+static uint32_t read_step(struct ref_session *session, struct page *page, uint16_t *tables, uint32_t j)
+{
+    uint16_t *aj = tables + j * session->darts;
+    uint32_t b = head_of(&session->queues[j]), partner, outcome;
+    if (aj[b] == NO_LINK) {
+        outcome = find_partner(session, page, tables, j, b, &partner);
+        if (outcome != DONE)
+            return outcome;
+        aj[b] = (uint16_t)partner;
+        aj[partner] = (uint16_t)b;
+    }
+    pass_on(session->queues, j, session->dim);
+    session->steps++;
+    return DONE;
+}
+
+/* All queues are empty: 15, 16 and 17. What waits is the fill of the last byte. */
+static uint32_t end_walk(struct ref_session *session, const uint16_t *tables)
+{
+    struct map map = { session->dim, session->darts, tables };
+    if (session->count < session->darts)
+        return 15;
+    if (test_manifold(&map).number != 0)
+        return 16;
+    if (session->bits != 0)
+        return 17;
+    session->bit_count = 0;
+    session->state = REF_COMPLETE;
+    return DONE;
+}
+
+static uint32_t run(struct ref_session *session, struct page *page, uint16_t *tables)
+{
+    uint32_t j, outcome;
+    while ((j = lowest_rank(session->queues, session->dim)) <= session->dim) {
+        outcome = read_step(session, page, tables, j);
+        if (outcome != DONE)
+            return outcome;
+    }
+    return end_walk(session, tables);
+}
+
+static uint32_t read_header(struct ref_session *session, struct page *page, uint16_t *tables, size_t tables_length)
+{
+    if (!have_bits(session, page, 16))
+        return WAITS;
+    uint32_t dim = session->bits >> 12, darts = (session->bits & 4095) + 1;
+    drop_bits(session, 16);
+    if (dim < 1 || dim >= REF_RANKS)
+        return 1;
+    if (tables_length < (size_t)(dim + 1) * darts)
+        return 3;
+    fill_no_link(tables, (size_t)(dim + 1) * darts);
+    session->state = REF_RUNNING;
+    session->dim = dim;
+    session->darts = darts;
+    session->count = 1;
+    enter(&session->queues[0], 0);
+    return DONE;
+}
+
+/* A reading answer of an accepted page or end. */
+static uint32_t answer_reading(const struct ref_session *session, uint32_t *answer)
+{
+    answer_fault(answer, READ_ANSWER, no_fault);
+    answer[2] = session->steps;
+    answer[3] = session->dim;
+    answer[4] = session->darts;
+    return 0;
+}
+
+static uint32_t repeat_refusal(const struct ref_session *session, uint32_t *answer)
+{
+    answer_fault(answer, READ_ANSWER, (struct fault){ session->number, session->place });
+    answer[2] = session->place;
+    return session->number;
+}
+
+static uint32_t refuse(struct ref_session *session, uint32_t number, uint16_t *tables, uint32_t *answer)
+{
+    uint32_t place = session->steps;
+    if (session->state != REF_HEADER)
+        fill_no_link(tables, (size_t)(session->dim + 1) * session->darts);
+    ref_open(session);
+    session->state = REF_REFUSED;
+    session->number = number;
+    session->place = place;
+    return repeat_refusal(session, answer);
+}
+
+void ref_open(struct ref_session *session)
+{
+    session->state = REF_HEADER;
+    session->number = session->place = 0;
+    session->dim = session->darts = session->count = session->steps = 0;
+    session->bits = session->bit_count = 0;
+    empty_queues(session->queues);
+}
+
+uint32_t ref_page(struct ref_session *session, const uint8_t *bytes, size_t bytes_length, uint16_t *tables, size_t tables_length,
+                  uint32_t *answer)
+{
+    struct page page = { bytes, bytes_length, 0 };
+    uint32_t outcome = DONE;
+    if (session->state == REF_CLOSED)
+        return answer_fault(answer, READ_ANSWER, (struct fault){ 20, 0 });
+    if (session->state == REF_REFUSED)
+        return repeat_refusal(session, answer);
+    if (session->state == REF_HEADER)
+        outcome = read_header(session, &page, tables, tables_length);
+    if (outcome == DONE && session->state == REF_RUNNING)
+        outcome = run(session, &page, tables);
+    if (outcome == DONE && page.at < page.length)
+        outcome = 18;
+    if (outcome != DONE && outcome != WAITS)
+        return refuse(session, outcome, tables, answer);
+    return answer_reading(session, answer);
+}
+
+uint32_t ref_close(struct ref_session *session, uint16_t *tables, size_t tables_length, uint32_t *answer)
+{
+    (void)tables_length;
+    switch (session->state) {
+    case REF_CLOSED:
+        return answer_fault(answer, READ_ANSWER, (struct fault){ 20, 0 });
+    case REF_REFUSED:
+        return repeat_refusal(session, answer);
+    case REF_COMPLETE:
+        session->state = REF_CLOSED;
+        return answer_reading(session, answer);
+    default:
+        return refuse(session, 11, tables, answer);
+    }
+}
+
+uint32_t ref_read(const uint8_t *bytes, size_t bytes_length, uint16_t *tables, size_t tables_length, uint32_t *answer)
+{
+    static struct ref_session session;
+    ref_open(&session);
+    if (ref_page(&session, bytes, bytes_length, tables, tables_length, answer) != 0)
+        return answer[0];
+    return ref_close(&session, tables, tables_length, answer);
+}
+
+void ref_record(const struct ref_session *session, uint32_t record[REF_RECORD])
+{
+    record[0] = (uint32_t)session->state;
+    record[1] = session->number;
+    record[2] = session->place;
+    record[3] = session->dim;
+    record[4] = session->darts;
+    record[5] = session->count;
+    for (int j = 0; j < REF_RANKS; j++)
+        record[6 + j] = session->queues[j].head;
+    record[13] = session->bit_count;
+    record[14] = session->bits;
+}
+
+/* The report. */
+
+/* Darts still to be left by a flood, each of which enters once. */
+struct flood {
+    uint16_t stack[REF_DARTS];
+    uint32_t height;
+    uint8_t mark[REF_DARTS]; /* 0 for a dart not reached */
+};
+
+static void reach(struct flood *flood, uint32_t dart, uint8_t mark)
+{
+    flood->mark[dart] = mark;
+    flood->stack[flood->height++] = (uint16_t)dart;
+}
+
+/* Marks the darts reached from one dart by all ranks but one. */
+static void flood_cell(const struct map *map, uint32_t left_out, uint32_t from, struct flood *flood)
+{
+    reach(flood, from, 1);
+    while (flood->height > 0) {
+        uint32_t dart = flood->stack[--flood->height];
+        for (uint32_t i = 0; i <= map->dim; i++) {
+            uint32_t partner = links_of_rank(map, i)[dart];
+            if (i != left_out && flood->mark[partner] == 0)
+                reach(flood, partner, 1);
+        }
+    }
+}
+
+static uint32_t count_cells(const struct map *map, uint32_t rank, struct flood *flood)
+{
+    uint32_t cells = 0;
+    memset(flood->mark, 0, map->darts);
+    for (uint32_t d = 0; d < map->darts; d++)
+        if (flood->mark[d] == 0) {
+            flood_cell(map, rank, d, flood);
+            cells++;
+        }
+    return cells;
+}
+
+/* Marks the darts reached from dart 0 with 1 and 2, a new dart with the other mark than the dart it is reached from; 1 if then every
+   link of a marked dart leads to the other mark. */
+static uint32_t two_classes(const struct map *map, struct flood *flood)
+{
+    uint32_t apart = 1;
+    memset(flood->mark, 0, map->darts);
+    reach(flood, 0, 1);
+    while (flood->height > 0) {
+        uint32_t dart = flood->stack[--flood->height];
+        for (uint32_t i = 0; i <= map->dim; i++) {
+            uint32_t partner = links_of_rank(map, i)[dart];
+            if (flood->mark[partner] == 0)
+                reach(flood, partner, 3 - flood->mark[dart]);
+            else if (flood->mark[partner] == flood->mark[dart])
+                apart = 0;
+        }
+    }
+    return apart;
+}
+
+static uint32_t count_free(const struct map *map)
+{
+    uint32_t count = 0;
+    for (uint32_t i = 0; i <= map->dim; i++)
+        for (uint32_t d = 0; d < map->darts; d++)
+            count += links_of_rank(map, i)[d] == d;
+    return count;
+}
+
+static struct fault test_reached(const struct flood *flood, uint32_t darts)
+{
+    for (uint32_t d = 0; d < darts; d++)
+        if (flood->mark[d] == 0)
+            return (struct fault){ 9, d };
+    return no_fault;
+}
+
+uint32_t ref_report(uint64_t dim, uint64_t darts, const uint16_t *tables, size_t tables_length, uint16_t *work, size_t work_length,
+                    uint32_t *answer)
+{
+    static struct flood flood;
+    struct fault fault = test_numbers(dim, darts, 0, tables_length, work_length);
+    if (fault.number != 0)
+        return answer_fault(answer, REPORT_ANSWER, fault);
+    struct map map = { (uint32_t)dim, (uint32_t)darts, tables };
+    fault = test_tables(&map);
+    if (fault.number != 0)
+        return answer_fault(answer, REPORT_ANSWER, fault);
+    fill_no_link(work, 2 * darts);
+    uint32_t orientable = two_classes(&map, &flood);
+    fault = test_reached(&flood, map.darts);
+    answer_fault(answer, REPORT_ANSWER, fault);
+    if (fault.number != 0)
+        return fault.number;
+    for (uint32_t i = 0; i <= map.dim; i++)
+        answer[2 + i] = count_cells(&map, i, &flood);
+    answer[9] = count_free(&map);
+    answer[10] = orientable;
+    return 0;
+}
