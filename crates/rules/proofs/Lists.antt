@@ -265,6 +265,23 @@ module _ {f : ℕ → Bool} {k i : ℕ} (r : Sought f k i) where
   pub sought-end : k ≤ i → i ≡ first f k
   sought-end h = sym (r .left ∙ scan-end f k i h)
 
+-- a search goes on over m numbers at once
+sought-on : {f : ℕ → Bool} {k i : ℕ} → Sought f k i → (m : ℕ) → i + m ≤ k → ((d : ℕ) → d < m → f (i + d) ≡ false) → Sought f k (i + m)
+sought-on {i = i} r zero h q = let e : i + 0 ≡ i = omega arith in rw e r
+sought-on {f = f} {k = k} {i = i} r (suc m) h q =
+    let e : i + suc m ≡ i + m + 1 = omega arith in
+    rw e (sought-next (sought-on r m (omega arith) (λ d l. q d (omega arith))) (omega arith) (q m (omega arith)))
+
+-- of which e is what the search among them alone came to
+module _ {f : ℕ → Bool} {k i : ℕ} (r : Sought f k i) (m e : ℕ) (h : i + m ≤ k) (q : e ≡ first (λ d. f (i + d)) m) where
+  pub sought-none : m ≤ e → Sought f k (i + m)
+  sought-none l = sought-on r m h (λ d hd. first-before (λ d. f (i + d)) m d (omega arith))
+
+  pub sought-among : e < m → i + e ≡ first f k
+  sought-among l =
+      let s = sought-on r e (omega arith) (λ d hd. first-before (λ d. f (i + d)) m d (omega arith)) in
+      sought-here s (omega arith) (rw q (first-passes (λ d. f (i + d)) m (omega arith)))
+
 -- within a list it is no matter what stands past its end
 pub getD-any : (t : List ℕ) (i x y : ℕ) → i < length t → getD t i x ≡ getD t i y
 getD-any [] i x y h = absurd (omega arith)

@@ -29,6 +29,14 @@ pub fn link(tables: &[u16], dim: usize, darts: usize, rank: usize, dart: u16) ->
     }
 }
 
+// ai(d) for a dart d: no test whether it is one.
+pub fn link_at(tables: &[u16], dim: usize, darts: usize, rank: usize, dart: u16) -> u16
+    requires { ⌜ Limits dim darts (now tables) × (rank ≤ dim) × (dart < darts) ⌝ }
+    ensures { λ r. ⌜ r ≡ Rattle.rules.specs.Map.link dim darts (now (tables .entry)) rank dart ⌝ }
+{
+    tables[place(dim, darts, rank, dart as usize)]
+}
+
 // The first link, counted by rank, then dart, that is not below n, or (N+1)·n.
 pub fn first_outside(tables: &[u16], dim: usize, darts: usize) -> usize
     requires { ⌜ Limits dim darts (now tables) ⌝ }
