@@ -5,7 +5,7 @@ use mathlib.Core.Logic.{_≢_}
 use mathlib.Core.Bool.{Bool, true, false, cond}
 use mathlib.Core.List.{List, _++_}
 use native.Mathlib.Omega.{arith}
-use native.Mathlib.Nat.{le-of-suc-le-suc, mod-lt, div-lt-iff-lt-mul}
+use native.Mathlib.Nat.{le-of-suc-le-suc, mod-lt, div-lt-iff-lt-mul, mul-le-mul}
 use lib.ListN.{length, getD, set, replicate, drop, length-append, length-replicate, List·getD-append}
 use lib.Seq.{drop-at, getD-set-same, getD-set-other}
 use lib.Dec.{ltb}
@@ -40,6 +40,10 @@ rank-nth n i d hd = digits-div i hd
 
 pub dart-nth : (n i d : ℕ) → d < n → (i * n + d) % n ≡ d
 dart-nth n i d hd = digits-mod i hd
+
+-- a rank's entries are within the tables
+pub row-within : (N n i : ℕ) → i ≤ N → i * n + n ≤ size N n
+row-within N n i h = omega (arith, mul-le-mul {n₁ = i + 1} {m₁ = n} {n₂ = suc N} {m₂ = n} (omega arith) (omega arith))
 
 -- the entry that a link is
 pub link-entry : (N n : ℕ) (t : List ℕ) (i d : ℕ) → d < n → link N n t i d ≡ getD t (place N n i d) mark

@@ -2,17 +2,19 @@
 -- start. Rests on Laws and Rooms.
 use Prim.Native.Nat.{ℕ, zero, suc, _+_, _*_, _-_, _≤_, _<_}
 use mathlib.Core.Path.{_≡_, refl, ap, sym, _∙_}
+use mathlib.Core.Logic.{_≢_}
+use mathlib.Core.Bool.{Bool, true, false, cond}
 use mathlib.Core.List.{List, [], _∷_, _++_}
 use native.Mathlib.Omega.{arith}
 use native.Mathlib.Decide.{ℕ-discrete, decLt}
-use lib.ListN.{length, getD, set, drop, length-append}
-use lib.Seq.{getD-at}
-use borrow.Author.Tests.{lt-ltb, le-ltb}
-use Rattle.walk.specs.declared.Numbering.{Numbering}
+use lib.ListN.{length, getD, set, drop, length-append, length-set}
+use lib.Seq.{getD-at, getD-set-same, getD-set-other}
+use lib.Dec.{eqb}
+use borrow.Author.Tests.{eqb-true, eq-eqb, ne-eqb, lt-ltb, le-ltb}
 use Rattle.walk.specs.declared.Output.{Output}
 use Rattle.walk.specs.declared.Output.the-variants.{Nothing, Border, New, Index}
 use Rattle.rules.specs.Lists.{number, sum}
-use Rattle.rules.specs.Map.{mark, blank, Valid}
+use Rattle.rules.specs.Map.{mark, link, blank, Valid}
 use Rattle.rules.specs.Walk.{Walk, start, Head, head, steps, Symbol, enough, Written, writeAt, writeStep, Walked, prepend, writeOn, write, walked, namesOf, symbolsOf}
 use Rattle.rules.specs.Stream.{code, codes}
 use Rattle.rules.proofs.Lists.{number-le, number-old}
@@ -24,9 +26,18 @@ use Rattle.rules.proofs.Runs.{total, steps-total, codes-append}
 use Rattle.rules.proofs.Names.{name, room}
 use Rattle.rules.proofs.Numbering.{After, Kept, after-kept}
 use Rattle.rules.proofs.Streams.{symbols-few}
-use Rattle.walk.specs.Numbers.{writesIn, bitsFor, countAfter, given, workFor, stepped, lowestFrom, roomOf, Newcomer}
-use Rattle.walk.proofs.Laws.{Agrees, symbolsFor, namesFor, Steps, steps-written}
-use Rattle.walk.proofs.Rooms.{room-agrees, room-new, room-none, room-tail, room-root}
+use Rattle.walk.specs.Numbers.{numberIn, dartIn, writesIn, countAfter, given, partnerIn, unnumbered, endsAfter, roomAfter, Headed, lowestFrom, roomOf}
+use Rattle.walk.proofs.Laws.{Agrees, symbolsFor, namesFor, workFor, across, written-new, written-old, Steps, steps-written, lowest-stop, lowest-on, lowest-over, count-kept}
+use Rattle.walk.proofs.Rooms.{shown-none, room-number, room-agrees, room-new, room-none, room-tail, room-root}
+
+-- the count and the positions of a numbering
+pub record Numbering : Type 0 where
+  pub count : ℕ
+  pub positions : List ℕ
+
+-- after a step at rank j that writes s
+abbrev pub stepped : Output → ℕ → Numbering → Numbering
+stepped s j w = record { count = countAfter s (w .count); positions = set (w .positions) j (getD (w .positions) j 0 + 1) }
 
 -- where the numbering stands
 pub record Going (N n : ℕ) (m : List ℕ) (root : ℕ) (work0 : List ℕ) (g : Numbering) (work : List ℕ) : Type 0 where
@@ -37,8 +48,12 @@ pub record Going (N n : ℕ) (m : List ℕ) (root : ℕ) (work0 : List ℕ) (g :
   pub room : work ≡ roomOf n names work0
   pub positions : g .positions ≡ walk .positions
   pub count : g .count ≡ walk .count
-  pub symbols : g .bits + length (codes ((write (enough N n - done) m walk names) .symbols)) ≡ length (codes (symbolsOf N n m root))
   pub ends : (write (enough N n - done) m walk names) .names ≡ namesOf N n m root
+
+-- a step's partner x is new, with room for its number, or the step leaves count and work room as they are
+data NewOrOld (n : ℕ) (work : List ℕ) (c x : ℕ) (s : Output) : Type 0 where
+  isNew : numberIn n work x ≡ mark → s ≡ New (record { 0 = x }) → c < n → NewOrOld n work c x s
+  isOld : numberIn n work x ≢ mark → countAfter s c ≡ c → workFor n s c work ≡ work → NewOrOld n work c x s
 
 -- the lowest queue that isn't empty, from the positions
 module _ (w : Walk) (s : Shape w) where
@@ -68,14 +83,6 @@ module _ (w : Walk) (s : Shape w) where
 
 lowest-same : (k k' c c' : ℕ) (p p' : List ℕ) → k ≡ k' → c ≡ c' → p ≡ p' → lowestFrom k 0 c p ≡ lowestFrom k' 0 c' p'
 lowest-same k k' c c' p p' e f g = rw (e, f, g)
-
--- the bits of what a step writes
-bits-symbols : (s : Output) → length (codes (symbolsFor s)) ≡ bitsFor s
-unfolding symbolsFor codes code
-bits-symbols Nothing = refl
-bits-symbols Border = refl
-bits-symbols (New x) = refl
-bits-symbols (Index e) = simp length-append (omega (arith, length-bits 12 (e .0)))
 
 -- a step of the rules, over the map's own sizes
 pub record Stepping (N n : ℕ) (m : List ℕ) (w : Walk) (names : List ℕ) (j : ℕ) (s : Output) : Type 0 where
@@ -173,13 +180,7 @@ room-step N n m root k w names work work0 c (New x) K e r =
     rw (r, e) (room-new n names work0 (x .0) (y .room) (y .dart) (y .none))
 room-step N n m root k w names work work0 c (Index x) K e r = r
 
--- what is left to write after a step
-left-bits : (a b : ℕ) (s : Output) (r r' : Walked) → r ≡ prepend (symbolsFor s) r' → a + length (codes (r .symbols)) ≡ b → (a + bitsFor s) + length (codes (r' .symbols)) ≡ b
-unfolding prepend
-left-bits a b s r r' e h =
-    let q : length (codes (r .symbols)) ≡ bitsFor s + length (codes (r' .symbols)) = rw (e, codes-append) (simp length-append (rw (bits-symbols s))) in
-    omega arith
-
+-- what is left to name after a step
 left-names : (s : Output) (r r' : Walked) (l : List ℕ) → r ≡ prepend (symbolsFor s) r' → r .names ≡ l → r' .names ≡ l
 unfolding prepend
 left-names s r r' l e h = sym (ap (λ (x : Walked). x .names) e) ∙ h
@@ -206,7 +207,7 @@ module _ (N n : ℕ) (m : List ℕ) (root : ℕ) (h6 : N ≤ 6) (hn : n ≤ 4096
       let t' : G .done ≤ suc N * n = rw (K .done, K .dim, K .darts) at t in
       (rw (G .positions) (K .done), omega arith)
 
-  pub going-start : Going N n m root work0 (record { count = 1; positions = 0 ∷ 0 ∷ 0 ∷ 0 ∷ 0 ∷ 0 ∷ 0 ∷ []; bits = 0 }) (given n (blank (2 * n) work0) root 0)
+  pub going-start : Going N n m root work0 (record { count = 1; positions = 0 ∷ 0 ∷ 0 ∷ 0 ∷ 0 ∷ 0 ∷ 0 ∷ [] }) (given n (blank (2 * n) work0) root 0)
   going-start = record {
     done = 0;
     walk = start N n [];
@@ -215,7 +216,6 @@ module _ (N n : ℕ) (m : List ℕ) (root : ℕ) (h6 : N ≤ 6) (hn : n ≤ 4096
     room = rw (← room-none n work0) (room-new n [] work0 root (omega arith) hr (unfold number in refl));
     positions = unfold start in refl;
     count = unfold start in refl;
-    symbols = rw z (unfold symbolsOf walked in omega arith);
     ends = rw z (unfold namesOf walked in refl);
   }
     where
@@ -293,7 +293,6 @@ module _ (N n : ℕ) (m : List ℕ) (root : ℕ) (h6 : N ≤ 6) (hn : n ≤ 4096
             room = room-step N n m root (suc (G .done)) (y .walk) (G .names) work work0 (g .count) s K' (G .count ∙ sym (K .named .len)) (G .room);
             positions = ap (λ (l : List ℕ). set l j (getD l j 0 + 1)) (G .positions) ∙ sym (y .positions);
             count = ap (countAfter s) (G .count) ∙ sym (y .count);
-            symbols = left-bits (g .bits) _ s _ _ q (G .symbols);
             ends = left-names s _ _ _ q (G .ends);
           };
           left = q;
@@ -323,16 +322,12 @@ module _ (N n : ℕ) (m : List ℕ) (root : ℕ) (h6 : N ≤ 6) (hn : n ≤ 4096
         let f : enough N n - G .done ≡ suc (enough N n - suc (G .done)) = omega arith in
         ap (λ (x : ℕ). write x m (G .walk) (G .names)) f ∙ write-end (enough N n - suc (G .done)) m (G .walk) (G .names) (going-none h)
 
-    -- the loop's end: the room holds the names of the whole walk, and the bits are those of its symbols
-    pub going-end : N < lowestFrom (N + 1) 0 (g .count) (g .positions) → (work ≡ roomOf n (namesOf N n m root) work0) × (g .bits ≡ length (codes (symbolsOf N n m root)))
+    -- the loop's end: the room holds the names of the whole walk
+    pub going-end : N < lowestFrom (N + 1) 0 (g .count) (g .positions) → work ≡ roomOf n (namesOf N n m root) work0
     going-end h =
         let q = going-over h in
         let e : G .names ≡ namesOf N n m root = sym (ap (λ (x : Walked). x .names) q) ∙ G .ends in
-        let z : length (codes ((write (enough N n - G .done) m (G .walk) (G .names)) .symbols)) ≡ 0 = ap (λ (x : Walked). length (codes (x .symbols))) q ∙ none in
-        (G .room ∙ ap (λ (l : List ℕ). roomOf n l work0) e, omega (arith, G .symbols))
-      where
-        none : length (codes []) ≡ 0
-        none = unfold codes in refl
+        G .room ∙ ap (λ (l : List ℕ). roomOf n l work0) e
 
     -- where the head stands: all within the room
     pub record Heads (j : ℕ) : Type 0 where
@@ -347,26 +342,48 @@ module _ (N n : ℕ) (m : List ℕ) (root : ℕ) (h6 : N ≤ 6) (hn : n ≤ 4096
         let l = next-below (G .walk) (K .inv .shape) (K .inv .links) j (getD (g .positions) j 0) (t .next) in
         record { position = omega (arith, K .inv .shape .within, K .darts); count = omega (arith, G .count, K .inv .shape .within, K .darts) }
 
-    pub going-bits : g .bits ≤ 401408
-    going-bits = omega (arith, G .symbols, symbols-few N n m root h6 hn hr A)
-
-    newcomer-of : (j b : ℕ) → head (G .walk) ≡ Head.at j b → b ≡ getD (g .positions) j 0 → 2 * n ≤ length work
-        → Newcomer n work (g .count) (writesIn N n m work (g .count) j (getD (g .positions) j 0))
-    unfolding namesFor
-    newcomer-of j b h eb hw =
+    -- the head's dart, and its own number, in any room that agrees with the names
+    pub going-own : (room : List ℕ) → Agrees n (G .names) room → (j : ℕ) → lowestFrom (N + 1) 0 (g .count) (g .positions) ≡ j → j ≤ N
+        → (dartIn n room (getD (g .positions) j 0) < n) × (numberIn n room (dartIn n room (getD (g .positions) j 0)) ≡ getD (g .positions) j 0)
+    going-own room R j e hj =
         let K = kept G in
-        let y = stepping-same N n m (G .walk) (G .names) work j (g .count) (G .walk .count) (getD (g .positions) j 0) b (G .count) eb (stepping N n m root (G .done) (G .walk) (G .names) work K A (agrees G) j b h) in
-        by-case (writesIn N n m work (g .count) j (getD (g .positions) j 0)) (after-kept N n m root h6 hn hr A (After.next (G .after) (y .step)))
-      where
-        by-case : (s : Output) {w' : Walk} → Kept N n m root (suc (G .done)) w' (namesFor s (G .names)) → Newcomer n work (g .count) s
-        by-case Nothing k = tt
-        by-case Border k = tt
-        by-case (New x) k = let K = kept G in let y = newcomer-in N n m root (suc (G .done)) _ (G .names) (x .0) k in (y .dart, omega (arith, y .room, G .count, K .named .len))
-        by-case (Index e) k = tt
+        let p = getD (g .positions) j 0 in
+        let l = next-below (G .walk) (K .inv .shape) (K .inv .links) j p (next-of (G .walk) (K .inv) (going-head j e hj) .next) in
+        let q = K .named .back p l in
+        rw (R .dart p (omega (arith, K .named .len))) ((rw (K .darts) at (K .named .low p l), R .numbered (name (G .names) p) (omega (arith, K .named .len)) ∙ q))
 
-    pub going-newcomer : (j : ℕ) → lowestFrom (N + 1) 0 (g .count) (g .positions) ≡ j → j ≤ N → 2 * n ≤ length work
-        → Newcomer n work (g .count) (writesIn N n m work (g .count) j (getD (g .positions) j 0))
-    going-newcomer j e hj hw = newcomer-of j (getD (g .positions) j 0) (going-head j e hj) refl hw
+    -- a partner that the room shows without number is new, and there is room for its number; any other is not
+    new-or-old : (j b : ℕ) → head (G .walk) ≡ Head.at j b → b ≡ getD (g .positions) j 0
+        → NewOrOld n work (g .count) (link N n m j (dartIn n work (getD (g .positions) j 0))) (writesIn N n m work (g .count) j (getD (g .positions) j 0))
+    unfolding across numberIn
+    new-or-old j b h eb = rw (← eb, G .count) (rw (← K .dim, ← K .darts) (rw (R .dart b (omega (arith, below, K .named .len))) (go (decLt (number (G .names) x) (length (G .names))))))
+      where
+        K : Kept N n m root (G .done) (G .walk) (G .names)
+        K = kept G
+
+        A' : Valid (G .walk .dim) (G .walk .darts) m
+        A' = rw (K .dim, K .darts) A
+
+        R : Agrees (G .walk .darts) (G .names) work
+        R = rw (K .darts) (agrees G)
+
+        below : b < G .walk .count
+        below = next-below (G .walk) (K .inv .shape) (K .inv .links) j b (next-of (G .walk) (K .inv) h .next)
+
+        x : ℕ
+        x = link (G .walk .dim) (G .walk .darts) m j (name (G .names) b)
+
+        hx : x < G .walk .darts
+        hx = A' .inside j (name (G .names) b) (next-of (G .walk) (K .inv) h .next .ranked) (K .named .low b below)
+
+        go : Dec (number (G .names) x < length (G .names)) → NewOrOld (G .walk .darts) work (G .walk .count) x (writesIn (G .walk .dim) (G .walk .darts) m work (G .walk .count) j b)
+        go (yes l) =
+            let (p, q) = written-old m root (G .walk) (G .names) work (K .inv) (K .named) A' R j b h l in
+            NewOrOld.isOld (λ z. omega (arith, R .numbered x l, names-le G, hn)) p q
+        go (no l) =
+            NewOrOld.isNew (rw (lt-ltb x (G .walk .darts) hx, G .room) (room-number n (G .names) work0 (names-le G) x (omega (arith, hx, K .darts)) ∙ shown-none (G .names) x (omega arith)))
+            (written-new m root (G .walk) (G .names) work (K .inv) (K .named) A' R j b h (omega arith))
+            (room m root (G .walk) (G .names) (K .inv) (K .named) A' x (omega (arith, number-le (G .names) x)) hx)
 
     -- each turn brings the loop nearer to its end
     pub going-less : (j : ℕ) → lowestFrom (N + 1) 0 (g .count) (g .positions) ≡ j → j ≤ N → enough N n - sum (set (g .positions) j (getD (g .positions) j 0 + 1)) < enough N n - sum (g .positions)
@@ -383,11 +400,115 @@ module _ (N n : ℕ) (m : List ℕ) (root : ℕ) (h6 : N ≤ 6) (hn : n ≤ 4096
   rooted : (given n (blank (2 * n) u) root 0 ≡ u) × (drop (2 * n) u ≡ drop (2 * n) work)
   rooted = let (p, q, r) = room-root n root work hr in rw (eu, eb) ((q, r))
 
-  pub begins-going : Going N n m root u (record { count = 1; positions = 0 ∷ 0 ∷ 0 ∷ 0 ∷ 0 ∷ 0 ∷ 0 ∷ []; bits = 0 }) u
+  pub begins-going : Going N n m root u (record { count = 1; positions = 0 ∷ 0 ∷ 0 ∷ 0 ∷ 0 ∷ 0 ∷ 0 ∷ [] }) u
   begins-going = rw (rooted .0) at (going-start N n m root h6 hn hr A u)
 
-  pub ends-going : {g : Numbering} {x : List ℕ} → Going N n m root u g x → N < lowestFrom (N + 1) 0 (g .count) (g .positions)
-      → (x ≡ roomOf n (namesOf N n m root) work) × (g .bits ≡ length (codes (symbolsOf N n m root)))
-  ends-going G h =
-      let (p, q) = going-end N n m root h6 hn hr A u G h in
-      (p ∙ room-tail n (namesOf N n m root) u work (rooted .1), q)
+  pub ends-going : {g : Numbering} {x : List ℕ} → Going N n m root u g x → N < lowestFrom (N + 1) 0 (g .count) (g .positions) → x ≡ roomOf n (namesOf N n m root) work
+  ends-going G h = going-end N n m root h6 hn hr A u G h ∙ room-tail n (namesOf N n m root) u work (rooted .1)
+
+-- Ends: the count, then the positions.
+
+-- the numbering that ends stand for
+abbrev pub standing : List ℕ → Numbering
+standing ends = record { count = getD ends 0 0; positions = drop 1 ends }
+
+-- the queues below j are empty
+abbrev pub Emptied : List ℕ → ℕ → Type 0
+Emptied ends j = (i : ℕ) → i < j → getD ends i 0 ≤ getD ends (i + 1) 0
+
+pub position-end : (ends : List ℕ) (j : ℕ) → getD (drop 1 ends) j 0 ≡ getD ends (j + 1) 0
+position-end [] j = refl
+position-end (c ∷ ps) j = let e : j + 1 ≡ suc j = omega arith in rw e
+
+pub positions-moved : (ends : List ℕ) (j v : ℕ) → drop 1 (set ends (j + 1) v) ≡ set (drop 1 ends) j v
+positions-moved [] j v = refl
+positions-moved (c ∷ ps) j v = let e : j + 1 ≡ suc j = omega arith in rw e
+
+pub positions-kept : (ends : List ℕ) (v : ℕ) → drop 1 (set ends 0 v) ≡ drop 1 ends
+positions-kept [] v = refl
+positions-kept (c ∷ ps) v = refl
+
+pub emptied-next : (ends : List ℕ) (j : ℕ) → Emptied ends j → getD ends j 0 ≤ getD ends (j + 1) 0 → Emptied ends (j + 1)
+emptied-next ends j E h i l = go (ℕ-discrete i j)
+  where
+    go : Dec (i ≡ j) → getD ends i 0 ≤ getD ends (i + 1) 0
+    go (yes e) = rw e h
+    go (no e) = E i (omega arith)
+
+-- what a step leaves empty
+pub emptied-after : (new : Bool) (ends : List ℕ) (j : ℕ) → Emptied ends j → Emptied (endsAfter new j ends) (cond new 0 j)
+unfolding endsAfter
+emptied-after true ends j E i l = absurd (omega arith)
+emptied-after false ends j E i l =
+    let v = getD ends (j + 1) 0 + 1 in
+    rw (getD-set-other ends (j + 1) i v 0 (omega arith), getD-set-other ends (j + 1) (i + 1) v 0 (omega arith)) (E i l)
+
+pub next-within : (new : Bool) (j k : ℕ) → j ≤ k → cond new 0 j ≤ k
+next-within true j k h = omega arith
+next-within false j k h = h
+
+module _ (N : ℕ) (ends : List ℕ) where
+  lowest-emptied : (j : ℕ) → j ≤ N + 1 → Emptied ends j → lowestFrom (N + 1) 0 (getD ends 0 0) (drop 1 ends) ≡ lowestFrom (N + 1 - j) j (getD ends j 0) (drop 1 ends)
+  lowest-emptied zero h E = let e : N + 1 - 0 ≡ N + 1 = omega arith in rw e
+  lowest-emptied (suc j) h E =
+      let r = lowest-emptied j (omega arith) (λ i l. E i (omega arith)) in
+      let o = lowest-on (N + 1) j (getD ends j 0) (drop 1 ends) (omega arith) (omega (arith, position-end ends j, E j (omega arith))) in
+      let e : j + 1 ≡ suc j = omega arith in
+      r ∙ rw (position-end ends j, e) at o
+
+  pub lowest-head : (j : ℕ) → j ≤ N → Emptied ends j → getD ends (j + 1) 0 < getD ends j 0 → lowestFrom (N + 1) 0 (getD ends 0 0) (drop 1 ends) ≡ j
+  lowest-head j h E l = lowest-emptied j (omega arith) E ∙ lowest-stop (N + 1) j (getD ends j 0) (drop 1 ends) (omega arith) (omega (arith, position-end ends j))
+
+  pub lowest-past : (j : ℕ) → j ≤ N + 1 → N < j → Emptied ends j → N < lowestFrom (N + 1) 0 (getD ends 0 0) (drop 1 ends)
+  lowest-past j h l E = rw (lowest-emptied j h E, lowest-over (N + 1) j (getD ends j 0) (drop 1 ends) (omega arith)) l
+
+module _ (N n : ℕ) (m : List ℕ) (root : ℕ) (h6 : N ≤ 6) (hn : n ≤ 4096) (hr : root < n) (A : Valid N n m) (work0 ends : List ℕ) {work : List ℕ} (G : Going N n m root work0 (standing ends) work) (eight : length ends ≡ 8)
+  (j : ℕ) (e : lowestFrom (N + 1) 0 (getD ends 0 0) (drop 1 ends) ≡ j) (hj : j ≤ N) where
+  case : NewOrOld n work (getD ends 0 0) (partnerIn N n m work ends j) (writesIn N n m work (getD ends 0 0) j (getD (drop 1 ends) j 0))
+  unfolding partnerIn
+  case = rw (← position-end ends j) (new-or-old N n m root h6 hn hr A work0 G j _ (going-head N n m root h6 hn hr A work0 G j e hj) refl)
+
+  pub going-headed : 2 * n ≤ length work → Headed N n m work ends j
+  unfolding unnumbered
+  going-headed hw =
+      let H = going-heads N n m root h6 hn hr A work0 G j e hj in
+      record {
+        position = omega (arith, H .position, position-end ends j);
+        dart = rw (← position-end ends j) (going-own N n m root h6 hn hr A work0 G work (agrees N n m root h6 hn hr A work0 G) j e hj .0);
+        room = hw;
+        next = next case;
+      }
+    where
+      next : NewOrOld n work (getD ends 0 0) (partnerIn N n m work ends j) (writesIn N n m work (getD ends 0 0) j (getD (drop 1 ends) j 0)) → eqb (numberIn n work (partnerIn N n m work ends j)) mark ≡ true → getD ends 0 0 < n
+      next (NewOrOld.isNew z s h) q = h
+      next (NewOrOld.isOld z s h) q = absurd (z (eqb-true (numberIn n work (partnerIn N n m work ends j)) mark q))
+
+  -- a step of the loop
+  pub going-numbered : let new = unnumbered N n m work ends j in Going N n m root work0 (standing (endsAfter new j ends)) (roomAfter new N n m j ends work)
+  unfolding unnumbered endsAfter roomAfter
+  going-numbered = go case (going-step N n m root h6 hn hr A work0 G j e hj)
+    where
+      moved : ℕ
+      moved = getD ends (j + 1) 0 + 1
+
+      left : List ℕ
+      left = set ends (j + 1) moved
+
+      go : {s : Output} → NewOrOld n work (getD ends 0 0) (partnerIn N n m work ends j) s → Going N n m root work0 (stepped s j (standing ends)) (workFor n s (getD ends 0 0) work)
+          → let new = eqb (numberIn n work (partnerIn N n m work ends j)) mark in
+          Going N n m root work0 (standing (cond new (set left 0 (getD left 0 0 + 1)) left)) (cond new (given n work (partnerIn N n m work ends j) (getD ends 0 0)) work)
+      go (NewOrOld.isNew z s h) G' =
+          rw (eq-eqb (numberIn n work (partnerIn N n m work ends j)) mark z, getD-set-same left 0 (getD left 0 0 + 1) 0 (omega (arith, length-set ends (j + 1) moved)), count-kept ends j moved, positions-kept left (getD ends 0 0 + 1), positions-moved ends j moved, ← position-end ends j)
+          (rw s at G')
+      go (NewOrOld.isOld z s h) G' =
+          rw (ne-eqb (numberIn n work (partnerIn N n m work ends j)) mark z, count-kept ends j moved, positions-moved ends j moved, ← position-end ends j)
+          (rw (s, h) at G')
+
+  -- it brings the loop nearer to its end
+  pub going-nearer : let new = unnumbered N n m work ends j in enough N n - sum (drop 1 (endsAfter new j ends)) < enough N n - sum (drop 1 ends)
+  unfolding endsAfter
+  going-nearer = rw (same (unnumbered N n m work ends j), ← position-end ends j) (going-less N n m root h6 hn hr A work0 G j e hj)
+    where
+      same : (new : Bool) → drop 1 (let left = set ends (j + 1) (getD ends (j + 1) 0 + 1) in cond new (set left 0 (getD left 0 0 + 1)) left) ≡ set (drop 1 ends) j (getD ends (j + 1) 0 + 1)
+      same true = positions-kept (set ends (j + 1) (getD ends (j + 1) 0 + 1)) _ ∙ positions-moved ends j (getD ends (j + 1) 0 + 1)
+      same false = positions-moved ends j (getD ends (j + 1) 0 + 1)

@@ -8,23 +8,24 @@ use mathlib.Core.List.{List, [], _∷_, _++_}
 use native.Mathlib.Omega.{arith}
 use native.Mathlib.Decide.{decLt}
 use lib.ListN.{length, getD, set}
+use lib.Seq.{getD-set-other}
 use lib.Dec.{eqb, ltb, leb}
 use borrow.Author.Tests.{eqb-false, eq-eqb, ne-eqb, lt-ltb, le-leb, lt-leb, le-ltb}
 use Rattle.rules.specs.declared.Dart.{Dart}
 use Rattle.rules.specs.declared.WalkNo.{WalkNo}
-use Rattle.walk.specs.declared.Numbering.{Numbering}
 use Rattle.walk.specs.declared.Output.{Output}
 use Rattle.walk.specs.declared.Output.the-variants.{Nothing, Border, New, Index}
 use Rattle.rules.specs.Lists.{scan, first, number}
 use Rattle.rules.specs.Map.{mark, link, Valid}
 use Rattle.rules.specs.Walk.{Walk, Head, head, Partner, partner, pass, join, fresh, tie, Symbol, apply, Written, symbolOf, named, writeSymbol, writeWith, writeAt, writeStep}
-use Rattle.rules.proofs.Lists.{number-le, getD-number, Sought, sought-here, sought-end, getD-any}
+use Rattle.rules.proofs.Lists.{not-both, number-le, getD-number, Sought, sought-here, sought-end, getD-any}
 use Rattle.rules.proofs.Positions.{gone, Turn, gone-le-count}
 use Rattle.rules.proofs.Links.{next-below}
-use Rattle.rules.proofs.Walks.{Inv, next-of}
+use Rattle.rules.proofs.Walks.{Inv, next-of, deduced-below}
+use Rattle.rules.proofs.Moves.{see-deduced}
 use Rattle.rules.proofs.Names.{name, Names}
 use Rattle.rules.proofs.Known.{leanKnown, leanDeduce, leanPartner, lower-link, partner-lean}
-use Rattle.walk.specs.Numbers.{numberIn, dartIn, knownIn, deducingRank, writesBy, writesIn, bitsFor, countAfter, workFor, stepped, lowestFrom, Newcomer, numberless}
+use Rattle.walk.specs.Numbers.{numberIn, dartIn, knownIn, deducingRank, writesBy, writesIn, given, countAfter, partnerIn, unnumbered, endsAfter, roomAfter, lowestFrom, numberless}
 
 -- the work room agrees with the names so far: numbered darts have their number, the others none below the count, and numbers have their dart
 pub record Agrees (n : ℕ) (names work : List ℕ) : Type 0 where
@@ -44,6 +45,20 @@ namesFor Nothing names = names
 namesFor Border names = names
 namesFor (New x) names = names ++ (x .0 ∷ [])
 namesFor (Index e) names = names
+
+-- a new partner gets the next number
+abbrev pub workFor : ℕ → Output → ℕ → List ℕ → List ℕ
+workFor n Nothing c work = work
+workFor n Border c work = work
+workFor n (New x) c work = given n work (x .0) c
+workFor n (Index e) c work = work
+
+not-new : (k d a : Bool) (n x e c : ℕ) (work : List ℕ) → (countAfter (writesBy k d a false x e) c ≡ c) × (workFor n (writesBy k d a false x e) c work ≡ work)
+unfolding writesBy
+not-new true d a n x e c work = (refl, refl)
+not-new false true a n x e c work = (refl, refl)
+not-new false false true n x e c work = (refl, refl)
+not-new false false false n x e c work = (refl, refl)
 
 module _ (n : ℕ) (names work : List ℕ) (G : Agrees n names work) where
   -- below a position that is at most the count the two numbers are the same
@@ -78,7 +93,7 @@ module _ (m : List ℕ) (root : ℕ) (w : Walk) (names work : List ℕ) (v : Inv
     below = next-below w (v .shape) (v .links) j b (turn .next)
 
     -- aj and ai of b's dart
-    across : ℕ → ℕ
+    unfoldable pub across : ℕ → ℕ
     across i = link (w .dim) (w .darts) m i (name names b)
 
     seen : ℕ → Bool
@@ -129,6 +144,36 @@ module _ (m : List ℕ) (root : ℕ) (w : Walk) (names work : List ℕ) (v : Inv
     written-by k d p q =
         let e : dartIn (w .darts) work b ≡ name names b = G .dart b (omega (arith, below, M .len)) in
         rw (e, p, q, ← M .len, new-same (w .darts) names work G (link (w .dim) (w .darts) m j (name names b)))
+
+    -- a deduced partner has a number
+    deduced-numbered : knownIn (w .dim) (w .darts) m work j b (name names b) ≡ false → ltb (deducingRank (w .dim) (w .darts) m work j b (name names b)) (j - 1) ≡ true → number names (across j) < w .count
+    deduced-numbered p q =
+        let d = see-deduced w j b (number names (across j)) (rw (p, q) at partner-by) in
+        rw (d .value) (deduced-below w v (d .i) j b turn (d .gap) (d .known))
+
+    -- a partner without number is new, whatever is known
+    pub written-new : length names ≤ number names (across j) → written ≡ New (record { 0 = across j })
+    unfolding writesBy knownIn across
+    written-new l = go _ _ refl refl
+      where
+        unknown : knownIn (w .dim) (w .darts) m work j b (name names b) ≡ false
+        unknown =
+            let p : number names (name names b) ≡ b = M .back b below in
+            let e : numberIn (w .darts) work (name names b) ≡ b = G .numbered (name names b) (omega (arith, M .len, below)) ∙ p in
+            rw (e, le-ltb b b (omega arith), le-ltb (numberIn (w .darts) work (across j)) b (omega (arith, G .unnumbered (across j) l, M .len, below)))
+
+        other : across j ≢ name names b
+        other e = omega (arith, M .back b below, M .len, below, ap (number names) e)
+
+        go : (k d : Bool) → knownIn (w .dim) (w .darts) m work j b (name names b) ≡ k → ltb (deducingRank (w .dim) (w .darts) m work j b (name names b)) (j - 1) ≡ d → written ≡ New (record { 0 = across j })
+        go true d p q = absurd (not-both (knownIn (w .dim) (w .darts) m work j b (name names b)) p unknown)
+        go false true p q = absurd (omega (arith, deduced-numbered p q, M .len))
+        go false false p q = written-by false false p q ∙ rw (ne-eqb (across j) (name names b) other, eq-eqb (number names (across j)) (length names) (omega (arith, number-le names (across j))))
+
+    -- any other is not
+    pub written-old : number names (across j) < length names → (countAfter written (w .count) ≡ w .count) × (workFor (w .darts) written (w .count) work ≡ work)
+    unfolding across
+    written-old l = rw (written-by _ _ refl refl, ne-eqb (number names (across j)) (length names) (omega arith)) (not-new _ _ _ (w .darts) (across j) _ (w .count) work)
 
     -- a step of the rules and what is written by numbers are one
     pub record Steps (s : Output) : Type 0 where
@@ -182,6 +227,11 @@ module _ (m : List ℕ) (root : ℕ) (w : Walk) (names work : List ℕ) (v : Inv
         })
         go false false p q = rw (written-by false false p q) (asked _ _ refl refl (rw (p, q) at partner-by))
 
+-- an entry that is read is a dart's number
+pub entry-number : (n : ℕ) (work : List ℕ) (d : ℕ) → n ≤ length work → d < n → getD work d 0 ≡ numberIn n work d
+unfolding numberIn
+entry-number n work d h hd = rw (lt-ltb d n hd) (getD-any work d 0 mark (omega arith))
+
 -- the tests of the code, each over what its calls answered
 pub known-own : (N n : ℕ) (t work : List ℕ) (j p d x : ℕ) → x ≡ numberIn n work d → x < p → true ≡ knownIn N n t work j p d
 unfolding knownIn
@@ -219,44 +269,61 @@ pub lowest-over : (k j c : ℕ) (ps : List ℕ) → k ≤ j → lowestFrom (k - 
 unfolding lowestFrom
 lowest-over k j c ps h = let e : k - j ≡ 0 = omega arith in rw e
 
--- what a step writes, one way through the code at a time
-module _ (N n : ℕ) (t work : List ℕ) (c j p : ℕ) (d : Dart) (ed : d .0 ≡ dartIn n work p) (k : Bool) (ek : k ≡ knownIn N n t work j p (d .0)) where
-  pub writes-known : k ≡ true → Nothing ≡ writesIn N n t work c j p
-  unfolding writesIn writesBy
-  writes-known h = rw (← ed, ← ek, h)
+-- what a step writes, one way through the code at a time: the dart's own number is not below the position
+module _ (N n : ℕ) (t work : List ℕ) (c j p : ℕ) (d : Dart) (ed : d .0 ≡ dartIn n work p) (own : p ≤ numberIn n work (d .0)) (x : Dart) (ex : x .0 ≡ link N n t j (d .0)) (e : WalkNo) (ee : e .0 ≡ numberIn n work (x .0)) where
+  pub writes-known : e .0 < p → Nothing ≡ writesIn N n t work c j p
+  unfolding writesIn writesBy knownIn
+  writes-known h = rw (← ed, ← ex, ← ee, le-ltb (numberIn n work (d .0)) p own, lt-ltb (e .0) p h)
 
-  module _ (hk : k ≡ false) (l : Bool) (el : l ≡ ltb (deducingRank N n t work j p (d .0)) (j - 1)) where
+  module _ (hk : p ≤ e .0) (l : Bool) (el : l ≡ ltb (deducingRank N n t work j p (d .0)) (j - 1)) where
+    unknown-both : knownIn N n t work j p (d .0) ≡ false
+    unfolding knownIn
+    unknown-both = rw (← ex, ← ee, le-ltb (numberIn n work (d .0)) p own, le-ltb (e .0) p hk)
+
     pub writes-deduced : l ≡ true → Nothing ≡ writesIn N n t work c j p
     unfolding writesIn writesBy
-    writes-deduced h = rw (← ed, ← ek, hk, ← el, h)
+    writes-deduced h = rw (← ed, unknown-both, ← el, h)
 
-    module _ (hl : l ≡ false) (x : Dart) (ex : x .0 ≡ link N n t j (d .0)) where
+    module _ (hl : l ≡ false) where
       pub writes-border : x .0 ≡ d .0 → Border ≡ writesIn N n t work c j p
       unfolding writesIn writesBy
-      writes-border h = rw (← ed, ← ek, hk, ← el, hl, ← ex, eq-eqb (x .0) (d .0) h)
+      writes-border h = rw (← ed, unknown-both, ← el, hl, ← ex, eq-eqb (x .0) (d .0) h)
 
-      module _ (hx : x .0 ≢ d .0) (e : WalkNo) (ee : e .0 ≡ numberIn n work (x .0)) where
+      module _ (hx : x .0 ≢ d .0) where
         pub writes-new : c ≤ e .0 → New x ≡ writesIn N n t work c j p
         unfolding writesIn writesBy
-        writes-new h = rw (← ed, ← ek, hk, ← el, hl, ← ex, ne-eqb (x .0) (d .0) hx, ← ee, le-leb c (e .0) h)
+        writes-new h = rw (← ed, unknown-both, ← el, hl, ← ex, ne-eqb (x .0) (d .0) hx, ← ee, le-leb c (e .0) h)
 
         pub writes-index : e .0 < c → Index e ≡ writesIn N n t work c j p
         unfolding writesIn writesBy
-        writes-index h = rw (← ed, ← ek, hk, ← el, hl, ← ex, ne-eqb (x .0) (d .0) hx, ← ee, lt-leb c (e .0) h)
+        writes-index h = rw (← ed, unknown-both, ← el, hl, ← ex, ne-eqb (x .0) (d .0) hx, ← ee, lt-leb c (e .0) h)
 
--- a turn of the numbering, over what its calls answered
-pub stepped-by : (w : Numbering) (j : ℕ) (s z : Output) (b c : ℕ) → s ≡ z → b ≡ bitsFor s → c ≡ countAfter s (w .count)
-    → record { count = c; positions = set (w .positions) j (getD (w .positions) j 0 + 1); bits = w .bits + b } ≡ stepped z j w
-stepped-by w j s z b c e eb ec = rw (eb, ec, e)
+-- the count stands before the positions
+pub count-kept : (ends : List ℕ) (j v : ℕ) → getD (set ends (j + 1) v) 0 0 ≡ getD ends 0 0
+count-kept ends j v = getD-set-other ends (j + 1) 0 v 0 (omega arith)
 
-pub noted-by : (n c : ℕ) (s z : Output) (work u : List ℕ) → s ≡ z → u ≡ workFor n s c work → u ≡ workFor n z c work
-noted-by n c s z work u e h = rw e at h
+-- a step of the numbering, one way through the code at a time: x is the partner, y its number
+module _ (N n : ℕ) (t work ends : List ℕ) (j d x y : ℕ) (ed : d ≡ dartIn n work (getD ends (j + 1) 0)) (ex : x ≡ link N n t j d) (ey : y ≡ numberIn n work x) where
+  abbrev left : List ℕ
+  left = set ends (j + 1) (getD ends (j + 1) 0 + 1)
 
-pub newcomer-by : (n c : ℕ) (s z : Output) (work : List ℕ) → s ≡ z → Newcomer n work c z → Newcomer n work c s
-newcomer-by n c s z work e h = rw e h
+  partner-is : x ≡ partnerIn N n t work ends j
+  unfolding partnerIn
+  partner-is = rw (← ed) ex
 
-pub bits-few : (s : Output) → bitsFor s ≤ 14
-bits-few Nothing = omega arith
-bits-few Border = omega arith
-bits-few (New x) = omega arith
-bits-few (Index e) = omega arith
+  pub numbered-yes : y ≢ 65535 → unnumbered N n t work ends j ≡ false
+  unfolding unnumbered
+  numbered-yes h = rw (← partner-is, ← ey, ne-eqb y 65535 h)
+
+  pub numbered-no : y ≡ 65535 → unnumbered N n t work ends j ≡ true
+  unfolding unnumbered
+  numbered-no h = rw (← partner-is, ← ey, eq-eqb y 65535 h)
+
+  pub stepped-old : y ≢ 65535 → let new = unnumbered N n t work ends j in (j ≡ cond new 0 j) × (left ≡ endsAfter new j ends) × (work ≡ roomAfter new N n t j ends work)
+  unfolding endsAfter roomAfter
+  stepped-old h = rw (numbered-yes h) ((refl, refl, refl))
+
+  pub stepped-new : (c : ℕ) (u : List ℕ) → y ≡ 65535 → c ≡ getD left 0 0 → u ≡ given n work x c → let new = unnumbered N n t work ends j in (0 ≡ cond new 0 j) × (set left 0 (c + 1) ≡ endsAfter new j ends) × (u ≡ roomAfter new N n t j ends work)
+  unfolding endsAfter roomAfter
+  stepped-new c u h ec eu =
+      rw (numbered-no h, eu, ec, count-kept ends j (getD ends (j + 1) 0 + 1), ← partner-is) ((refl, refl, refl))

@@ -1,5 +1,6 @@
 -- The verdict taken apart as the code takes it: sizes first, then the tables, then the numbering. Rests on the rules' Check and Numbering.
 use Prim.Native.Nat.{ℕ, zero, suc, _+_, _*_, _/_, _%_, _≤_, _<_}
+use Rattle.tables.specs.Darts.{Inside}
 use mathlib.Core.Path.{_≡_, refl, ap, sym, _∙_}
 use mathlib.Core.Logic.{_≢_}
 use mathlib.Core.Bool.{Bool, true, false, not, cond}
@@ -9,24 +10,22 @@ use native.Mathlib.Nat.{mul-le-mul}
 use native.Mathlib.Decide.{decLt}
 use lib.ListN.{length}
 use lib.Dec.{eqb, ltb, leb}
-use borrow.Author.Tests.{ltb-true, ltb-false, ne-eqb, lt-ltb, leb-true, le-leb, lt-leb, le-ltb}
+use borrow.Author.Tests.{not-false, eqb-true, ltb-true, ltb-false, ne-eqb, lt-ltb, leb-true, le-leb, lt-leb, le-ltb}
 use Rattle.rules.specs.declared.CheckAnswer.{CheckAnswer}
-use Rattle.walk.specs.declared.Inspected.{Inspected}
 use Rattle.rules.specs.Lists.{scan, first, number}
-use Rattle.rules.specs.Map.{mark, dimFits, dartsFit, size, place, blank, pairsOf, firstBroken, Reached, allRanks, Valid, Limits, reaches}
-use Rattle.rules.specs.Walk.{namesOf, symbolsOf}
+use Rattle.rules.specs.Map.{mark, dimFits, dartsFit, size, place, link, blank, pairsOf, firstBroken, Reached, allRanks, Valid, Limits, reaches}
+use Rattle.rules.specs.Walk.{namesOf}
 use Rattle.rules.specs.Check.{Verdict, refuseIf, spot, outside, twisted, unreached, tablesVerdict, verdict, numbering, workAfter, checkAnswerOf, checkAnswer, checkWork}
-use Rattle.rules.specs.Stream.{codes}
-use Rattle.rules.proofs.Lists.{and-left, and-right, not-both, pigeonhole}
+use Rattle.rules.proofs.Lists.{and-left, and-right, not-both, pigeonhole, first-none, first-before}
 use Rattle.rules.proofs.Firsts.{Tells}
-use Rattle.rules.proofs.Places.{place-below, nth-rank, nth-dart}
+use Rattle.rules.proofs.Places.{place-below, nth-rank, nth-dart, nth-below, rank-nth, dart-nth, link-dart}
 use Rattle.rules.proofs.Pairs.{tells-pairs}
 use Rattle.rules.proofs.Orbits.{valid-closed}
 use Rattle.rules.proofs.Check.{tells-entry, tells-inverse, tells-reaches, fine-passes}
 use Rattle.rules.proofs.Readings.{dim-fits}
 use Rattle.rules.proofs.Names.{name, room}
 use Rattle.rules.proofs.Numbering.{numbered-reaches, reaches-numbered, number-name, name-below, names-all}
-use Rattle.walk.specs.Numbers.{roomOf, numberless, misfitOf, misbuiltOf, inspectedBy, inspectedOf}
+use Rattle.walk.specs.Numbers.{roomOf, numberless, misfitOf, misbuiltOf}
 use Rattle.walk.proofs.Rooms.{shown, shown-numbered, shown-none, room-blank, room-number, room-all}
 
 -- the limits by their tests
@@ -95,14 +94,33 @@ module _ (N n : ℕ) (t : List ℕ) where
     unfolding misbuiltOf spot
     misbuilt-7 k p e h q = rw (← e6, le-ltb k6 (size N n) h6, ← e, lt-ltb k (size N n) h, q)
 
-    module _ (k7 : ℕ) (e7 : k7 ≡ first (twisted N n t) (size N n)) (h7 : size N n ≤ k7) where
-      pub misbuilt-8 : (d : ℕ) → d ≡ firstBroken N n t (pairsOf N) → d < n → record { number = 8; place = d } ≡ misbuiltOf N n t
-      unfolding misbuiltOf
-      misbuilt-8 d e h = rw (← e6, le-ltb k6 (size N n) h6, ← e7, le-ltb k7 (size N n) h7, ← e, lt-ltb d n h)
+  -- where every link leads back every link is a dart, and nothing is refused by 6
+  module _ (h1 : 1 ≤ n) (hn : n ≤ 4096) (k7 : ℕ) (e7 : k7 ≡ first (twisted N n t) (size N n)) (h7 : size N n ≤ k7) where
+    all-inside : first (outside N n t) (size N n) ≡ size N n
+    unfolding outside twisted
+    all-inside = first-none (outside N n t) (size N n) (λ k h. go k h (first-before (twisted N n t) (size N n) k (omega arith)))
+      where
+        go : (k : ℕ) → k < size N n → twisted N n t k ≡ false → not (ltb (link N n t (k / n) (k % n)) n) ≡ false
+        go k h q =
+            let e = eqb-true (link N n t (k / n) (link N n t (k / n) (k % n))) (k % n) (not-false _ q) in
+            let l = link-dart N n t (k / n) (link N n t (k / n) (k % n)) (λ z. omega (arith, nth-dart n k h1)) in
+            rw (lt-ltb (link N n t (k / n) (k % n)) n l)
 
-      pub misbuilt-none : (d : ℕ) → d ≡ firstBroken N n t (pairsOf N) → n ≤ d → record { number = 0; place = 0 } ≡ misbuiltOf N n t
-      unfolding misbuiltOf
-      misbuilt-none d e h = rw (← e6, le-ltb k6 (size N n) h6, ← e7, le-ltb k7 (size N n) h7, ← e, le-ltb d n h)
+    pub misbuilt-8 : (d : ℕ) → d ≡ firstBroken N n t (pairsOf N) → d < n → record { number = 8; place = d } ≡ misbuiltOf N n t
+    unfolding misbuiltOf
+    misbuilt-8 d e h = rw (all-inside, le-ltb (size N n) (size N n) (omega arith), ← e7, le-ltb k7 (size N n) h7, ← e, lt-ltb d n h)
+
+    pub misbuilt-none : (d : ℕ) → d ≡ firstBroken N n t (pairsOf N) → n ≤ d → record { number = 0; place = 0 } ≡ misbuiltOf N n t
+    unfolding misbuiltOf
+    misbuilt-none d e h = rw (all-inside, le-ltb (size N n) (size N n) (omega arith), ← e7, le-ltb k7 (size N n) h7, ← e, le-ltb d n h)
+
+    pub twisted-inside : Inside N n t
+    unfolding outside
+    twisted-inside = record {
+      inside = λ i d hi hd.
+        let q = first-before (outside N n t) (size N n) (i * n + d) (omega (arith, all-inside, nth-below N n i d hi hd)) in
+        ltb-true (link N n t i d) n (not-false _ (rw (rank-nth n i d hd, dart-nth n i d hd) at q));
+    }
 
 -- a position fits 32 bits
 pub place-small : (N n k p : ℕ) → N ≤ 6 → n ≤ 4096 → 1 ≤ n → k < size N n → p ≡ place N n (k / n) (k % n) → p < 28672
@@ -209,8 +227,8 @@ names-few N n m root h6 hn hr A =
 
 -- refused before the numbering: the answer, and the room as it was
 refused-early : (N n root : ℕ) (t work : List ℕ) (nr p : ℕ) → verdict N n root t (length work) ≡ Verdict.refused nr p → nr ≢ 9
-    → (record { number = nr; place = p; bits = 0 } ≡ inspectedOf N n root t work) × (work ≡ checkWork N n root t work)
-unfolding inspectedOf inspectedBy checkWork workAfter
+    → (record { number = nr; place = p } ≡ checkAnswer N n root t work) × (work ≡ checkWork N n root t work)
+unfolding checkAnswer checkAnswerOf checkWork workAfter
 refused-early N n root t work nr p v h = rw v ((refl, rw (ne-eqb nr 9 h)))
 
 module _ (N n root : ℕ) (t work : List ℕ) (k : ℕ) (ek : k ≡ misfitOf N n root (length t) (length work)) where
@@ -223,7 +241,7 @@ module _ (N n root : ℕ) (t work : List ℕ) (k : ℕ) (ek : k ≡ misfitOf N n
   few = rw ek (sizes-le (dimFits N) (dartsFit n) (ltb (length t) (size N n)) (ltb (length work) (2 * n)) (ltb root n))
 
   -- 1 to 5
-  pub inspect-sizes : k ≢ 0 → (record { number = k; place = 0; bits = 0 } ≡ inspectedOf N n root t work) × (work ≡ checkWork N n root t work)
+  pub inspect-sizes : k ≢ 0 → (record { number = k; place = 0 } ≡ checkAnswer N n root t work) × (work ≡ checkWork N n root t work)
   inspect-sizes h = refused-early N n root t work k 0 (sized ∙ step k h) (λ e. omega (arith, few))
     where
       step : (k : ℕ) → k ≢ 0 → bySize k (tablesVerdict N n root t) ≡ Verdict.refused k 0
@@ -248,7 +266,7 @@ module _ (N n root : ℕ) (t work : List ℕ) (k : ℕ) (ek : k ≡ misfitOf N n
       tabled = rw ea (tables-verdict (ltb (first (outside N n t) (size N n)) (size N n)) (ltb (first (twisted N n t) (size N n)) (size N n)) (ltb (firstBroken N n t (pairsOf N)) n) _ _ _ _)
 
       -- 6 to 8
-      pub inspect-tables : a .number ≢ 0 → (record { number = a .number; place = a .place; bits = 0 } ≡ inspectedOf N n root t work) × (work ≡ checkWork N n root t work)
+      pub inspect-tables : a .number ≢ 0 → (record { number = a .number; place = a .place } ≡ checkAnswer N n root t work) × (work ≡ checkWork N n root t work)
       unfolding misbuiltOf
       inspect-tables h =
           refused-early N n root t work (a .number) (a .place) (sized-on ∙ (tabled ∙ by-tables-some a (numbered-verdict N n root t) h))
@@ -295,29 +313,19 @@ module _ (N n root : ℕ) (t work : List ℕ) (k : ℕ) (ek : k ≡ misfitOf N n
           found = ed ∙ first-same (numberless w) (unreached N n t root) n numberless-unreached
 
           -- 9
-          pub inspect-unreached : (u : List ℕ) → u ≡ blank (2 * n) w → d < n → (record { number = 9; place = d; bits = 0 } ≡ inspectedOf N n root t work) × (u ≡ checkWork N n root t work)
-          unfolding inspectedOf inspectedBy checkWork workAfter refuseIf
+          pub inspect-unreached : (u : List ℕ) → u ≡ blank (2 * n) w → d < n → (record { number = 9; place = d } ≡ checkAnswer N n root t work) × (u ≡ checkWork N n root t work)
+          unfolding checkAnswer checkAnswerOf checkWork workAfter refuseIf
           inspect-unreached u eu h =
               let (L, hw, hr) = inspect-limits in
               let v : verdict N n root t (length work) ≡ Verdict.refused 9 d = tabled-on ∙ rw (← found, lt-ltb d n h) in
               rw v ((refl, rw (eu, ew) (room-blank n (namesOf N n t root) work (names-few N n t root (L .dims .1) (L .darts .1) hr inspect-valid))))
 
           -- accepted
-          pub inspect-fine : (b : ℕ) → b ≡ length (codes (symbolsOf N n t root)) → n ≤ d → (record { number = 0; place = 0; bits = b } ≡ inspectedOf N n root t work) × (w ≡ checkWork N n root t work)
-          unfolding inspectedOf inspectedBy checkWork workAfter refuseIf numbering
-          inspect-fine b eb h =
+          pub inspect-fine : n ≤ d → (record { number = 0; place = 0 } ≡ checkAnswer N n root t work) × (w ≡ checkWork N n root t work)
+          unfolding checkAnswer checkAnswerOf checkWork workAfter refuseIf numbering
+          inspect-fine h =
               let (L, hw, hr) = inspect-limits in
               let v : verdict N n root t (length work) ≡ Verdict.fine = tabled-on ∙ rw (← found, le-ltb d n h) in
               let P = fine-passes N n root t (length work) v in
               let e = names-all N n t root (L .dims .1) (L .darts .1) hr inspect-valid (P .connected) in
-              rw v ((rw eb, ew ∙ room-all n (namesOf N n t root) work e (λ i l. reaches-numbered N n t root (L .dims .1) (L .darts .1) hr inspect-valid (P .connected .reached i l))))
-
--- the check drops the bits
-pub check-by : (N n root : ℕ) (t work u : List ℕ) (a : Inspected) → (a ≡ inspectedOf N n root t work) × (u ≡ checkWork N n root t work)
-    → (record { number = a .number; place = a .place } ≡ checkAnswer N n root t work) × (u ≡ checkWork N n root t work)
-unfolding inspectedOf checkAnswer
-check-by N n root t work u a (e, f) = (rw e (same (length (codes (symbolsOf N n t root))) (verdict N n root t (length work))), f)
-  where
-    same : (b : ℕ) (v : Verdict) → record { number = inspectedBy b v .number; place = inspectedBy b v .place } ≡ checkAnswerOf v
-    same b Verdict.fine = unfold inspectedBy checkAnswerOf in refl
-    same b (Verdict.refused nr p) = unfold inspectedBy checkAnswerOf in refl
+              rw v ((refl, ew ∙ room-all n (namesOf N n t root) work e (λ i l. reaches-numbered N n t root (L .dims .1) (L .darts .1) hr inspect-valid (P .connected .reached i l))))

@@ -7,12 +7,12 @@ ghost use mathlib.Core.Path.{_≡_};
 ghost use Prim.Native.Nat.{_+_, _*_, _-_, _≤_, _<_};
 ghost use lib.ListN.{length, getD};
 ghost use lib.Dec.{ltb};
+ghost use mathlib.Core.Bool.{cond};
 ghost use Rattle.rules.specs.Lists.{first};
 ghost use Rattle.rules.specs.Map.{Limits, Valid, link};
-ghost use Rattle.rules.specs.Walk.{namesOf, symbolsOf};
-ghost use Rattle.rules.specs.Stream.{codes};
+ghost use Rattle.rules.specs.Walk.{namesOf};
 ghost use Rattle.rules.specs.Check.{checkAnswer, checkWork};
-ghost use Rattle.walk.specs.Numbers.{numberIn, dartIn, knownIn, deducingRank, writesIn, bitsFor, given, workFor, countAfter, stepped, lowestFrom, roomOf, numberless, misfitOf, misbuiltOf, inspectedOf, Newcomer};
+ghost use Rattle.walk.specs.Numbers.{numberIn, dartIn, knownIn, deducingRank, writesIn, given, countAfter, lowestFrom, unnumbered, endsAfter, roomAfter, Headed, roomOf, numberless, misfitOf, misbuiltOf};
 
 // What a step writes for aj(b): nothing where it is known or deduced, else its symbol.
 pub enum Output {
@@ -22,31 +22,13 @@ pub enum Output {
     Index(WalkNo),
 }
 
-// Where the numbering stands: the darts numbered, the positions, and the bits of the symbols so far.
-pub struct Numbering {
-    pub count: u16,
-    pub positions: [u16; 7],
-    pub bits: u32,
-}
-
-// What the check comes to; the bits of the symbols where it accepts.
-pub struct Inspected {
-    pub number: u32,
-    pub place: u32,
-    pub bits: u32,
-}
-
 // The walk number of a dart, or the mark.
 pub fn number_of(work: &[u16], darts: usize, d: Dart) -> WalkNo
-    requires { ⌜ darts ≤ length (now work) ⌝ }
+    requires { ⌜ (darts ≤ length (now work)) × (d .0 < darts) ⌝ }
     ensures { λ r. ⌜ r .0 ≡ numberIn darts (now (work .entry)) (d .0) ⌝ }
 {
     let at = d.0 as usize;
-    if at < darts {
-        WalkNo(work[at])
-    } else {
-        WalkNo(Session::NO_LINK)
-    }
+    WalkNo(work[at])
 }
 
 // The dart of a walk number that is given.
@@ -60,10 +42,10 @@ pub fn dart_of(work: &[u16], darts: usize, b: WalkNo) -> Dart
 
 // ai(d)
 pub fn follow(tables: &[u16], dim: usize, darts: usize, rank: usize, d: Dart) -> Dart
-    requires { ⌜ Limits dim darts (now tables) × (rank ≤ dim) ⌝ }
+    requires { ⌜ Limits dim darts (now tables) × (rank ≤ dim) × (d .0 < darts) ⌝ }
     ensures { λ r. ⌜ r .0 ≡ link dim darts (now (tables .entry)) rank (d .0) ⌝ }
 {
-    Dart(tables::link(tables, dim, darts, rank, d.0))
+    Dart(tables::link_at(tables, dim, darts, rank, d.0))
 }
 
 // Is aj(d) known? Its own number or its partner's is below position j.
@@ -76,7 +58,7 @@ pub fn known(
     d: Dart,
     position: u16,
 ) -> bool
-    requires { ⌜ Limits dim darts (now tables) × (j ≤ dim) × (darts ≤ length (now work)) ⌝ }
+    requires { ⌜ Limits dim darts (now tables) × Valid dim darts (now tables) × (j ≤ dim) × (darts ≤ length (now work)) × (d .0 < darts) ⌝ }
     ensures { λ r. ⌜ r ≡ knownIn dim darts (now (tables .entry)) (now (work .entry)) j position (d .0) ⌝ }
 {
     if number_of(work, darts, d).0 < position {
@@ -95,7 +77,7 @@ pub fn deduced(
     d: Dart,
     position: u16,
 ) -> bool
-    requires { ⌜ Limits dim darts (now tables) × (j ≤ dim) × (darts ≤ length (now work)) ⌝ }
+    requires { ⌜ Limits dim darts (now tables) × Valid dim darts (now tables) × (j ≤ dim) × (darts ≤ length (now work)) × (d .0 < darts) ⌝ }
     ensures { λ r. ⌜ r ≡ ltb (deducingRank dim darts (now (tables .entry)) (now (work .entry)) j position (d .0)) (j - 1) ⌝ }
 {
     let mut i = 0;
@@ -116,7 +98,8 @@ pub fn deduced(
     false
 }
 
-// What is written for the head of Lj, the dart numbered by position j. A partner is new if its number is not below the count.
+// What is written for the head of Lj, the dart numbered by position j. Its own number is that position, so aj(d) is known if the partner's is below. A partner is new
+// if its number is not below the count.
 pub fn writes(
     tables: &[u16],
     work: &[u16],
@@ -126,37 +109,25 @@ pub fn writes(
     j: usize,
     position: u16,
 ) -> Output
-    requires { ⌜ Limits dim darts (now tables) × (j ≤ dim) × (darts + position < length (now work)) ⌝ }
+    requires { ⌜ Limits dim darts (now tables) × Valid dim darts (now tables) × (j ≤ dim) × (darts + position < length (now work)) × (dartIn darts (now work) position < darts) × (position ≤ numberIn darts (now work) (dartIn darts (now work) position)) ⌝ }
     ensures { λ r. ⌜ r ≡ writesIn dim darts (now (tables .entry)) (now (work .entry)) count j position ⌝ }
 {
     let d = dart_of(work, darts, WalkNo(position));
-    if known(tables, work, dim, darts, j, d, position) {
+    let x = follow(tables, dim, darts, j, d);
+    let e = number_of(work, darts, x);
+    if e.0 < position {
         return Output::Nothing;
     }
     if deduced(tables, work, dim, darts, j, d, position) {
         return Output::Nothing;
     }
-    let x = follow(tables, dim, darts, j, d);
     if x.0 == d.0 {
         return Output::Border;
     }
-    let e = number_of(work, darts, x);
     if count <= e.0 {
         return Output::New(x);
     }
     Output::Index(e)
-}
-
-// How many bits a step writes.
-pub fn bits_of(s: Output) -> u32
-    ensures { λ r. ⌜ r ≡ bitsFor s ⌝ }
-{
-    match s {
-        Output::Nothing => 0,
-        Output::Border => 2,
-        Output::New(_) => 1,
-        Output::Index(_) => 14,
-    }
 }
 
 // The rank of the lowest queue that isn't empty, or N+1.
@@ -200,67 +171,47 @@ pub fn count_after(s: Output, count: u16) -> u16
     }
 }
 
-// A new partner gets the next number.
-pub fn note(work: &mut [u16], darts: usize, s: Output, count: u16)
-    requires { ⌜ Newcomer darts (now work) count s ⌝ }
-    ensures { λ r. ⌜ now (work .exit) ≡ workFor darts s count (now (work .entry)) ⌝ }
-{
-    match s {
-        Output::Nothing => {}
-        Output::Border => {}
-        Output::New(x) => give_number(work, darts, x, WalkNo(count)),
-        Output::Index(_) => {}
-    }
-}
-
-// One step of the numbering at the head of Lj.
+// One step of the numbering at the head of Lj. Only a new partner is looked for: one whose link is known or deduced has a number already.
+// The answer is the rank to go on at: 0 after a new dart.
 pub fn number_step(
     tables: &[u16],
     work: &mut [u16],
+    ends: &mut [u16],
     dim: usize,
     darts: usize,
-    w: Numbering,
     j: usize,
-) -> Numbering
-    requires { ⌜ Limits dim darts (now tables) × (j ≤ dim) × (getD (w .positions) j 0 < 4096) × (darts + getD (w .positions) j 0 < length (now work)) × (w .count ≤ 4096) × (w .bits ≤ 1000000) × Newcomer darts (now work) (w .count) (writesIn dim darts (now tables) (now work) (w .count) j (getD (w .positions) j 0)) ⌝ }
-    ensures { λ r. ⌜ (r ≡ stepped (writesIn dim darts (now (tables .entry)) (now (work .entry)) (w .count) j (getD (w .positions) j 0)) j w) × (now (work .exit) ≡ workFor darts (writesIn dim darts (now (tables .entry)) (now (work .entry)) (w .count) j (getD (w .positions) j 0)) (w .count) (now (work .entry))) ⌝ }
+) -> usize
+    requires { ⌜ Limits dim darts (now tables) × Valid dim darts (now tables) × (j ≤ dim) × (length (now ends) ≡ 8) × Headed dim darts (now tables) (now work) (now ends) j ⌝ }
+    ensures { λ r. let new = unnumbered dim darts (now (tables .entry)) (now (work .entry)) (now (ends .entry)) j in ⌜ (r ≡ cond new 0 j) × (now (ends .exit) ≡ endsAfter new j (now (ends .entry))) × (now (work .exit) ≡ roomAfter new dim darts (now (tables .entry)) j (now (ends .entry)) (now (work .entry))) ⌝ }
 {
-    let position = w.positions[j];
-    let count = w.count;
-    let s = writes(tables, work, dim, darts, count, j, position);
-    note(work, darts, s, count);
-    let mut next = w;
-    next.bits = w.bits + bits_of(s);
-    next.positions[j] = position + 1;
-    next.count = count_after(s, count);
-    next
+    let b = ends[j + 1];
+    ends[j + 1] = b + 1;
+    let x = follow(tables, dim, darts, j, dart_of(work, darts, WalkNo(b)));
+    if number_of(work, darts, x).0 != Session::NO_LINK {
+        return j;
+    }
+    let count = ends[0];
+    give_number(work, darts, x, WalkNo(count));
+    ends[0] = count + 1;
+    0
 }
 
-// The darts reached from the root are numbered; the others keep the mark.
-pub fn number_all(
-    tables: &[u16],
-    work: &mut [u16],
-    dim: usize,
-    darts: usize,
-    root: usize,
-) -> Numbering
+// The darts reached from the root are numbered; the others keep the mark. Lj holds the numbers from ends[j + 1] up to ends[j], and ends[0] is the count.
+pub fn number_all(tables: &[u16], work: &mut [u16], dim: usize, darts: usize, root: usize)
     requires { ⌜ Limits dim darts (now tables) × (root < darts) × (2 * darts ≤ length (now work)) × Valid dim darts (now tables) ⌝ }
-    ensures { λ r. ⌜ (now (work .exit) ≡ roomOf darts (namesOf dim darts (now (tables .entry)) root) (now (work .entry))) × (r .bits ≡ length (codes (symbolsOf dim darts (now (tables .entry)) root))) ⌝ }
+    ensures { λ r. ⌜ now (work .exit) ≡ roomOf darts (namesOf dim darts (now (tables .entry)) root) (now (work .entry)) ⌝ }
 {
     tables::blank(work, 2 * darts);
     give_number(work, darts, Dart(root as u16), WalkNo(0));
-    let mut w = Numbering {
-        count: 1,
-        positions: [0u16; 7],
-        bits: 0,
-    };
-    loop {
-        let positions = w.positions;
-        let j = lowest(dim, w.count, positions);
-        if dim < j {
-            return w;
+    let mut ends = [0u16; 8];
+    ends[0] = 1;
+    let mut j = 0;
+    while j <= dim {
+        if ends[j] <= ends[j + 1] {
+            j += 1;
+        } else {
+            j = number_step(tables, work, &mut ends, dim, darts, j);
         }
-        w = number_step(tables, work, dim, darts, w, j);
     }
 }
 
@@ -313,18 +264,19 @@ pub fn misbuilt(tables: &[u16], dim: usize, darts: usize) -> CheckAnswer
     ensures { λ r. ⌜ r ≡ misbuiltOf dim darts (now (tables .entry)) ⌝ }
 {
     let size = (dim + 1) * darts;
-    let k = tables::first_outside(tables, dim, darts);
-    if k < size {
-        return CheckAnswer {
-            number: 6,
-            place: tables::place(dim, darts, k / darts, k % darts) as u32,
-        };
-    }
-    let k = tables::first_twisted(tables, dim, darts);
-    if k < size {
+    // a link that leads back is a dart: where all do, 6 needs no search of its own
+    let t = tables::first_twisted(tables, dim, darts);
+    if t < size {
+        let k = tables::first_outside(tables, dim, darts);
+        if k < size {
+            return CheckAnswer {
+                number: 6,
+                place: tables::place(dim, darts, k / darts, k % darts) as u32,
+            };
+        }
         return CheckAnswer {
             number: 7,
-            place: tables::place(dim, darts, k / darts, k % darts) as u32,
+            place: tables::place(dim, darts, t / darts, t % darts) as u32,
         };
     }
     let d = tables::first_broken(tables, dim, darts);
@@ -340,50 +292,32 @@ pub fn misbuilt(tables: &[u16], dim: usize, darts: usize) -> CheckAnswer
     }
 }
 
-// The check, with the bits of the symbols.
-pub fn inspect(dim: usize, darts: usize, root: usize, tables: &[u16], work: &mut [u16]) -> Inspected
-    ensures { λ r. ⌜ (r ≡ inspectedOf dim darts root (now (tables .entry)) (now (work .entry))) × (now (work .exit) ≡ checkWork dim darts root (now (tables .entry)) (now (work .entry))) ⌝ }
-{
-    let first = misfit(dim, darts, root, tables.len(), work.len());
-    if first != 0 {
-        return Inspected {
-            number: first,
-            place: 0,
-            bits: 0,
-        };
-    }
-    let next = misbuilt(tables, dim, darts);
-    if next.number != 0 {
-        return Inspected {
-            number: next.number,
-            place: next.place,
-            bits: 0,
-        };
-    }
-    let w = number_all(tables, work, dim, darts, root);
-    let d = first_unnumbered(work, darts);
-    if d < darts {
-        tables::blank(work, 2 * darts);
-        return Inspected {
-            number: 9,
-            place: d as u32,
-            bits: 0,
-        };
-    }
-    Inspected {
-        number: 0,
-        place: 0,
-        bits: w.bits,
-    }
-}
-
 // The check of posted tables.
 pub fn check(dim: usize, darts: usize, root: usize, tables: &[u16], work: &mut [u16]) -> CheckAnswer
     ensures { λ r. ⌜ (r ≡ checkAnswer dim darts root (now (tables .entry)) (now (work .entry))) × (now (work .exit) ≡ checkWork dim darts root (now (tables .entry)) (now (work .entry))) ⌝ }
 {
-    let c = inspect(dim, darts, root, tables, work);
+    let first = misfit(dim, darts, root, tables.len(), work.len());
+    if first != 0 {
+        return CheckAnswer {
+            number: first,
+            place: 0,
+        };
+    }
+    let next = misbuilt(tables, dim, darts);
+    if next.number != 0 {
+        return next;
+    }
+    number_all(tables, work, dim, darts, root);
+    let d = first_unnumbered(work, darts);
+    if d < darts {
+        tables::blank(work, 2 * darts);
+        return CheckAnswer {
+            number: 9,
+            place: d as u32,
+        };
+    }
     CheckAnswer {
-        number: c.number,
-        place: c.place,
+        number: 0,
+        place: 0,
     }
 }

@@ -1,19 +1,18 @@
 -- The replay goes along the same walk: a finished numbering agrees with the names of every turn, so each turn writes what the numbering wrote, and what is left to write falls
 -- by just that. Rests on the numbering's laws (walk: Laws, Rooms, Going).
-use Prim.Native.Nat.{ℕ, zero, suc, _+_, _-_, _≤_, _<_}
+use Prim.Native.Nat.{ℕ, zero, suc, _+_, _*_, _-_, _≤_, _<_}
 use mathlib.Core.Path.{_≡_, refl, ap, sym, _∙_}
+use mathlib.Core.Logic.{_≢_}
 use mathlib.Core.Bool.{Bool, true, false, cond}
 use mathlib.Core.List.{List, [], _∷_, _++_, append-assoc, append-nil}
 use native.Mathlib.Omega.{arith}
-use native.Mathlib.Decide.{decLt}
-use lib.ListN.{length, getD, set, length-append, List·getD-append}
-use lib.Seq.{getD-append-add}
+use native.Mathlib.Decide.{ℕ-discrete, decLt}
+use lib.ListN.{length, getD, set, drop, length-append, List·getD-append, length-set}
+use lib.Seq.{getD-append-add, getD-set-same, getD-set-other}
 use lib.Dec.{eqb, leb}
-use borrow.Author.Tests.{lt-ltb, leb-false, le-ltb}
-use Rattle.walk.specs.declared.Numbering.{Numbering}
+use borrow.Author.Tests.{eqb-true, eq-eqb, ne-eqb, lt-ltb, leb-false, le-ltb}
 use Rattle.walk.specs.declared.Output.{Output}
 use Rattle.pen.specs.declared.Pen.{Pen}
-use Rattle.writer.specs.declared.Replay.{Replay}
 use Rattle.rules.specs.Lists.{listOf, number, sum}
 use Rattle.rules.specs.Map.{mark, link, Valid}
 use Rattle.rules.specs.Walk.{Walk, Head, head, Partner, partner, Symbol, enough, Written, symbolOf, named, writeSymbol, writeWith, writeAt, writeStep, Walked, prepend, writeOn, write, namesOf, symbolsOf}
@@ -26,10 +25,11 @@ use Rattle.rules.proofs.Numbering.{name-number, name-below, names-all}
 use Rattle.rules.proofs.Streams.{symbols-few}
 use Rattle.walk.specs.Numbers.{numberIn, dartIn, writesBy, writesIn, countAfter, lowestFrom}
 use Rattle.walk.proofs.Laws.{Agrees, symbolsFor}
-use Rattle.walk.proofs.Going.{Going, going-start, going-start-left, going-onward, going-same, going-over, going-heads, going-less}
+use Rattle.walk.proofs.Going.{Numbering, Going, Emptied, position-end, positions-moved, positions-kept, going-own, going-start, going-start-left, going-onward, going-same, going-over, going-heads, going-less}
 use Rattle.pen.specs.Pens.{PenFits, Put, IndexFits}
 use Rattle.pen.proofs.Laws.{put-none, put-both}
-use Rattle.writer.specs.Replays.{Replayed, NumberedFrom}
+use Rattle.writer.specs.declared.Replay.{Replay}
+use Rattle.writer.specs.Replays.{Replays, Replayed, NumberedFrom}
 
 -- names and more names
 number-front : (names rest : List ℕ) (d : ℕ) → number names d < length names → number (names ++ rest) d ≡ number names d
@@ -224,9 +224,13 @@ module _ (N n : ℕ) (m : List ℕ) (root : ℕ) (h6 : N ≤ 6) (hn : n ≤ 4096
     pub replay-less : (j : ℕ) → lowestFrom (N + 1) 0 c ps ≡ j → j ≤ N → enough N n - sum (set ps j (getD ps j 0 + 1)) < enough N n - sum ps
     replay-less j e hj = rw (R .positions) (going-less N n m root h6 hn hr A work (R .going) j (on-rank j e) hj)
 
+    -- the head's dart and its own number
+    pub replay-own : (j : ℕ) → lowestFrom (N + 1) 0 c ps ≡ j → j ≤ N → (dartIn n work (getD ps j 0) < n) × (numberIn n work (dartIn n work (getD ps j 0)) ≡ getD ps j 0)
+    replay-own j e hj = rw (R .positions) (going-own N n m root h6 hn hr A work (R .going) work agrees-now j (on-rank j e) hj)
+
     -- the turn itself
-    pub replay-goes : (j : ℕ) → lowestFrom (N + 1) 0 c ps ≡ j → j ≤ N → {q : Replay} {o' : List ℕ}
-        → Replayed (writesIn N n m work c j (getD ps j 0)) j from (record { count = c; positions = ps; pen = r }) q o o' → Replaying N n m root work from (q .count) (q .positions) pen (q .pen) out o'
+    pub replay-goes : (j : ℕ) → lowestFrom (N + 1) 0 c ps ≡ j → j ≤ N → {q : Pen} {o' : List ℕ} → let s = writesIn N n m work c j (getD ps j 0) in
+        Put (codes (symbolsFor s)) from r q o o' → Replaying N n m root work from (countAfter s c) (set ps j (getD ps j 0 + 1)) pen q out o'
     replay-goes j e hj {q} {o'} x =
         let s = writesIn N n m work c j (getD ps j 0) in
         let z = writesIn N n m (R .room) (R .numbering' .count) j (getD (R .numbering' .positions) j 0) in
@@ -236,10 +240,10 @@ module _ (N n : ℕ) (m : List ℕ) (root : ℕ) (h6 : N ≤ 6) (hn : n ≤ 4096
           numbering' = _;
           room = _;
           going = y .going;
-          count = x .count ∙ (ap (countAfter s) (R .count) ∙ ap (λ (a : Output). countAfter a (R .numbering' .count)) f);
-          positions = x .positions ∙ ap (λ (l : List ℕ). set l j (getD l j 0 + 1)) (R .positions);
+          count = ap (countAfter s) (R .count) ∙ ap (λ (a : Output). countAfter a (R .numbering' .count)) f;
+          positions = ap (λ (l : List ℕ). set l j (getD l j 0 + 1)) (R .positions);
           bits = R .bits ++ codes (symbolsFor s);
-          put = put-both (R .put) (x .put);
+          put = put-both (R .put) x;
           left = left-next (R .bits) s z _ _ (symbolsOf N n m root) f (y .left) (R .left);
         }
 
@@ -249,10 +253,73 @@ module _ (N n : ℕ) (m : List ℕ) (root : ℕ) (h6 : N ≤ 6) (hn : n ≤ 4096
         let q = going-over N n m root h6 hn hr A work (R .going) (rw same-lowest at h) in
         rw (← left-none (R .bits) _ (symbolsOf N n m root) (ap (λ (x : Walked). x .symbols) q) (R .left)) (R .put)
 
--- a step of the code, over what its calls answered
+-- a step of the code, over what its calls answered: k is the count after it
+pub rank-new : (k c j : ℕ) → k ≢ c → 0 ≡ cond (eqb k c) j 0
+rank-new k c j h = rw (ne-eqb k c h)
+
+pub rank-old : (k c j : ℕ) → k ≡ c → j ≡ cond (eqb k c) j 0
+rank-old k c j h = rw (eq-eqb k c h)
+
+pub replayed-by : (N n : ℕ) (t work ends : List ℕ) (j start : ℕ) (pen : Pen) (q : Replay) (c k : ℕ) (s : Output) {out out' : List ℕ} → c ≡ getD ends 0 0 → s ≡ writesIn N n t work c j (getD ends (j + 1) 0) → k ≡ countAfter s c
+    → Put (codes (symbolsFor s)) start pen (q .pen) out out' → q .rank ≡ cond (eqb k c) j 0
+    → Replayed (writesIn N n t work (getD ends 0 0) j (getD ends (j + 1) 0)) j start pen q ends (set (set ends (j + 1) (getD ends (j + 1) 0 + 1)) 0 k) out out'
+replayed-by N n t work ends j start pen q c k s ec es ek x er =
+    record { rank = rw (← ec, ← es, ← ek) er; after = rw (← ec, ← es, ← ek); put = rw (← ec, ← es) x }
+
 pub index-by : (s z : Output) → s ≡ z → IndexFits z → IndexFits s
 index-by s z e h = rw e h
 
-pub replayed-by : (s z : Output) (j from : ℕ) (r q : Replay) {out out' : List ℕ} → s ≡ z → q .count ≡ countAfter s (r .count) → Put (codes (symbolsFor s)) from (r .pen) (q .pen) out out'
-    → q .positions ≡ set (r .positions) j (getD (r .positions) j 0 + 1) → Replayed z j from r q out out'
-replayed-by s z j from r q e c p x = record { count = rw (← e) c; positions = x; put = rw (← e) p }
+-- the ends after a step: the count, then the positions
+abbrev pub moved : ℕ → ℕ → ℕ → List ℕ → List ℕ
+moved j v c ends = set (set ends (j + 1) v) 0 c
+
+module _ (ends : List ℕ) (j v c : ℕ) (some : 0 < length ends) where
+  pub moved-count : getD (moved j v c ends) 0 0 ≡ c
+  moved-count = getD-set-same (set ends (j + 1) v) 0 c 0 (omega (arith, length-set ends (j + 1) v))
+
+  pub moved-positions : drop 1 (moved j v c ends) ≡ set (drop 1 ends) j v
+  moved-positions = positions-kept (set ends (j + 1) v) c ∙ positions-moved ends j v
+
+  -- the queues below the rank to go on at are empty
+  pub moved-emptied : (b : Bool) → eqb c (getD ends 0 0) ≡ b → Emptied ends j → Emptied (moved j v c ends) (cond b j 0)
+  moved-emptied false q E i l = absurd (omega arith)
+  moved-emptied true q E i l = go (ℕ-discrete i 0)
+    where
+      later : (i : ℕ) → i ≤ j → i ≢ 0 → getD (moved j v c ends) i 0 ≡ getD ends i 0
+      later i h z = getD-set-other (set ends (j + 1) v) 0 i c 0 z ∙ getD-set-other ends (j + 1) i v 0 (omega arith)
+
+      go : Dec (i ≡ 0) → getD (moved j v c ends) i 0 ≤ getD (moved j v c ends) (i + 1) 0
+      go (yes e) = rw e (rw (moved-count, later 1 (omega arith) (omega arith), eqb-true c (getD ends 0 0) q) (E 0 (omega arith)))
+      go (no e) = rw (later i (omega arith) e, later (i + 1) (omega arith) (omega arith)) (E i l)
+
+pub moved-within : (b : Bool) (j k : ℕ) → j ≤ k → cond b j 0 ≤ k
+moved-within true j k h = h
+moved-within false j k h = omega arith
+
+-- the replay over ends
+module _ (N n : ℕ) (m : List ℕ) (root : ℕ) (h6 : N ≤ 6) (hn : n ≤ 4096) (hr : root < n) (A : Valid N n m) (work : List ℕ) (Q : NumberedFrom N n m root work) (from : ℕ) (pen : Pen) (out ends : List ℕ)
+  {r : Pen} {o : List ℕ} (R : Replaying N n m root work from (getD ends 0 0) (drop 1 ends) pen r out o) (j : ℕ) (e : lowestFrom (N + 1) 0 (getD ends 0 0) (drop 1 ends) ≡ j) (hj : j ≤ N) where
+  pub replay-asks : 2 * n ≤ length work → PenFits 401422 pen → Replays N n m work ends j r
+  replay-asks hw f =
+      let (p, c) = replay-heads N n m root h6 hn hr A work Q from pen out R j e hj in
+      let (d, o) = rw (position-end ends j) at (replay-own N n m root h6 hn hr A work Q from pen out R j e hj) in
+      record {
+        position = omega (arith, position-end ends j);
+        count = omega arith;
+        room = hw;
+        dart = d;
+        own = omega arith;
+        fits = replay-fits N n m root h6 hn hr A work Q from pen out R f;
+        index = rw (position-end ends j) at (replay-index N n m root h6 hn hr A work Q from pen out R j (omega arith));
+      }
+
+  module _ (some : 0 < length ends) where
+    pub replay-moves : {q : Pen} {o' : List ℕ} → let s = writesIn N n m work (getD ends 0 0) j (getD ends (j + 1) 0) in Put (codes (symbolsFor s)) from r q o o'
+        → let ends' = moved j (getD ends (j + 1) 0 + 1) (countAfter s (getD ends 0 0)) ends in Replaying N n m root work from (getD ends' 0 0) (drop 1 ends') pen q out o'
+    replay-moves {q} {o'} x =
+        let s = writesIn N n m work (getD ends 0 0) j (getD ends (j + 1) 0) in
+        rw (moved-count ends j (getD ends (j + 1) 0 + 1) (countAfter s (getD ends 0 0)) some, moved-positions ends j (getD ends (j + 1) 0 + 1) (countAfter s (getD ends 0 0)) some)
+        (rw (position-end ends j) at (replay-goes N n m root h6 hn hr A work Q from pen out R j e hj {q = q} {o' = o'} (rw (position-end ends j) x)))
+
+    pub replay-nearer : (c : ℕ) → enough N n - sum (drop 1 (moved j (getD ends (j + 1) 0 + 1) c ends)) < enough N n - sum (drop 1 ends)
+    replay-nearer c = rw (moved-positions ends j (getD ends (j + 1) 0 + 1) c some, ← position-end ends j) (replay-less N n m root h6 hn hr A work Q from pen out R j e hj)

@@ -5,20 +5,20 @@ use mathlib.Core.Logic.{_≢_}
 use mathlib.Core.Bool.{Bool}
 use mathlib.Core.List.{List, [], _++_}
 use native.Mathlib.Omega.{arith}
-use lib.ListN.{length, take, drop, length-append, length-take, length-drop}
+use lib.ListN.{length, take, drop, length-take, length-drop, drop-of-length-le}
+use lib.Seq.{take-nil}
 use borrow.Author.Tests.{lt-ltb, le-ltb}
-use Rattle.walk.specs.declared.Inspected.{Inspected}
+use Rattle.rules.specs.declared.CheckAnswer.{CheckAnswer}
 use Rattle.pen.specs.declared.Pen.{Pen}
 use Rattle.rules.specs.Map.{Valid, Connected, Limits}
 use Rattle.rules.specs.Walk.{symbolsOf}
-use Rattle.rules.specs.Check.{Verdict, refuseIf, verdict, workAfter, checkWork}
+use Rattle.rules.specs.Check.{Verdict, refuseIf, verdict, workAfter, checkAnswerOf, checkAnswer, checkWork}
 use Rattle.rules.specs.Stream.{bitsOf, codes, header, filled}
 use Rattle.rules.specs.Writing.{stream, pageOf, startVerdict, writeVerdict, pageAfter, writeAnswerOf, writePage, writeAnswer, writeOut}
 use Rattle.rules.proofs.Check.{Case, refused-case, fine-passes}
 use Rattle.rules.proofs.Codes.{length-bits}
 use Rattle.rules.proofs.Names.{room}
-use Rattle.rules.proofs.Streams.{filled-length, symbols-few}
-use Rattle.walk.specs.Numbers.{inspectedBy, inspectedOf}
+use Rattle.rules.proofs.Streams.{filled-length, stream-longest}
 use Rattle.pen.specs.Pens.{penned, PenFits, Holds, Put}
 use Rattle.writer.specs.Replays.{NumberedFrom}
 
@@ -29,6 +29,17 @@ pub emitted : (N n : ℕ) (t : List ℕ) (root from : ℕ) (p0 p1 p2 p3 : Pen) (
 unfolding stream header
 emitted N n t root from p0 p1 p2 p3 o0 o1 o2 o3 o4 h a b c f =
     f ((bitsOf 4 N ++ bitsOf 12 (n - 1)) ++ codes (symbolsOf N n t root)) o0 (c .holds (bitsOf 4 N ++ bitsOf 12 (n - 1)) o0 (b .holds (bitsOf 4 N) o0 (a .holds [] o0 h)))
+
+-- its length, as the pen tells it
+pub pen-length : {bs : List Bool} {start : ℕ} {out0 : List ℕ} {pen : Pen} {out : List ℕ} → Holds bs start out0 pen out → (0 < pen .bits → pen .at + 1 ≡ length (filled bs)) × (pen .bits ≡ 0 → pen .at ≡ length (filled bs))
+pen-length {bs} H = let q = filled-length bs in let a = H .at in let b = H .bits in (λ h. omega arith, λ h. omega arith)
+
+pub emitted-length : (N n : ℕ) (t : List ℕ) (root from r : ℕ) (p0 p1 p2 p3 : Pen) (o0 o1 o2 o3 : List ℕ)
+    → Holds [] from o0 p0 o0 → Put (bitsOf 4 N) from p0 p1 o0 o1 → Put (bitsOf 12 (n - 1)) from p1 p2 o1 o2 → Put (codes (symbolsOf N n t root)) from p2 p3 o2 o3
+    → ((bs : List Bool) (start : ℕ) (out0 out : List ℕ) → Holds bs start out0 p3 out → r ≡ length (filled bs)) → r ≡ length (stream N n t root)
+unfolding stream header
+emitted-length N n t root from r p0 p1 p2 p3 o0 o1 o2 o3 h a b c f =
+    f ((bitsOf 4 N ++ bitsOf 12 (n - 1)) ++ codes (symbolsOf N n t root)) from o0 o3 (c .holds (bitsOf 4 N ++ bitsOf 12 (n - 1)) o0 (b .holds (bitsOf 4 N) o0 (a .holds [] o0 h)))
 
 -- no refusal has number 0
 case-positive : (N n root : ℕ) (t : List ℕ) (room nr p : ℕ) → Case N n root t room nr p → nr ≢ 0
@@ -42,28 +53,22 @@ case-positive N n root t room nr p (Case.inverse i d F) e = omega arith
 case-positive N n root t room nr p (Case.manifold k d F) e = omega arith
 case-positive N n root t room nr p (Case.unreachable d L) e = omega arith
 
-module _ (N n root : ℕ) (t work : List ℕ) (c : Inspected) (ec : c ≡ inspectedOf N n root t work) where
+module _ (N n root : ℕ) (t work : List ℕ) (c : CheckAnswer) (ec : c ≡ checkAnswer N n root t work) where
   refused-verdict : c .number ≢ 0 → verdict N n root t (length work) ≡ Verdict.refused (c .number) (c .place)
-  unfolding inspectedOf
-  refused-verdict h = go (verdict N n root t (length work)) refl
+  unfolding checkAnswer checkAnswerOf
+  refused-verdict h = rw ec (go (verdict N n root t (length work)) (λ z. h (ap (λ (x : CheckAnswer). x .number) ec ∙ z)))
     where
-      go : (v : Verdict) → verdict N n root t (length work) ≡ v → verdict N n root t (length work) ≡ Verdict.refused (c .number) (c .place)
-      go Verdict.fine e = absurd (h (ap (λ (x : Inspected). x .number) ec ∙ rw e (unfold inspectedBy in refl)))
-      go (Verdict.refused nr p) e =
-          let q : inspectedBy (length (codes (symbolsOf N n t root))) (verdict N n root t (length work)) ≡ record { number = nr; place = p; bits = 0 } = rw e (unfold inspectedBy in refl) in
-          let a : c .number ≡ nr = ap (λ (x : Inspected). x .number) (ec ∙ q) in
-          let b : c .place ≡ p = ap (λ (x : Inspected). x .place) (ec ∙ q) in
-          e ∙ (λ i. Verdict.refused (sym a i) (sym b i))
+      go : (v : Verdict) → checkAnswerOf v .number ≢ 0 → v ≡ Verdict.refused (checkAnswerOf v .number) (checkAnswerOf v .place)
+      go Verdict.fine h = absurd (h refl)
+      go (Verdict.refused nr p) h = refl
 
-  fine-verdict : c .number ≡ 0 → (verdict N n root t (length work) ≡ Verdict.fine) × (c .bits ≡ length (codes (symbolsOf N n t root)))
-  unfolding inspectedOf
-  fine-verdict h = go (verdict N n root t (length work)) refl
+  fine-verdict : c .number ≡ 0 → verdict N n root t (length work) ≡ Verdict.fine
+  unfolding checkAnswer checkAnswerOf
+  fine-verdict h = go (verdict N n root t (length work)) refl (sym (ap (λ (x : CheckAnswer). x .number) ec) ∙ h)
     where
-      go : (v : Verdict) → verdict N n root t (length work) ≡ v → (verdict N n root t (length work) ≡ Verdict.fine) × (c .bits ≡ length (codes (symbolsOf N n t root)))
-      go Verdict.fine e = (e, ap (λ (x : Inspected). x .bits) ec ∙ rw e (unfold inspectedBy in refl))
-      go (Verdict.refused nr p) e =
-          let q : c .number ≡ nr = ap (λ (x : Inspected). x .number) ec ∙ rw e (unfold inspectedBy in refl) in
-          absurd (case-positive N n root t (length work) nr p (refused-case N n root t (length work) nr p e .0) (sym q ∙ h))
+      go : (v : Verdict) → verdict N n root t (length work) ≡ v → checkAnswerOf v .number ≡ 0 → verdict N n root t (length work) ≡ Verdict.fine
+      go Verdict.fine e z = e
+      go (Verdict.refused nr p) e z = absurd (case-positive N n root t (length work) nr p (refused-case N n root t (length work) nr p e .0) z)
 
   -- the check's refusals
   pub write-refused : (from : ℕ) (out : List ℕ) → c .number ≢ 0
@@ -74,20 +79,20 @@ module _ (N n root : ℕ) (t work : List ℕ) (c : Inspected) (ec : c ≡ inspec
   module _ (h : c .number ≡ 0) where
     -- what the check has found
     pub write-limits : Limits N n t × Valid N n t × Connected N n t root × (2 * n ≤ length work)
-    write-limits = let P = fine-passes N n root t (length work) (fine-verdict h .0) in (P .limits, P .valid, P .connected, P .work)
+    write-limits = let P = fine-passes N n root t (length work) (fine-verdict h) in (P .limits, P .valid, P .connected, P .work)
 
-    pub write-length : (c .bits + 23) / 8 ≡ length (stream N n t root)
-    unfolding stream header
-    write-length =
-        let e = fine-verdict h .1 in
-        let q : length ((bitsOf 4 N ++ bitsOf 12 (n - 1)) ++ codes (symbolsOf N n t root)) ≡ 16 + c .bits = simp (length-append, length-bits) (omega arith) in
-        sym (filled-length ((bitsOf 4 N ++ bitsOf 12 (n - 1)) ++ codes (symbolsOf N n t root)) ∙ rw q (omega arith))
+    -- a stream is not long
+    pub write-longest : length (stream N n t root) ≤ 50178
+    write-longest = let (L, A, C, w) = write-limits in stream-longest N n t root (L .dims .1) (L .darts .1) (C .rooted) A
 
-    -- 10
-    pub write-late : (from l : ℕ) (out : List ℕ) → l ≡ length (stream N n t root) → l < from
-        → (record { number = 10; place = l; written = 0; length = 0 } ≡ writeAnswer N n root from t work out) × (out ≡ writeOut N n root from t work out)
-    unfolding writeAnswer writeOut writePage writeVerdict startVerdict pageAfter writeAnswerOf refuseIf
-    write-late from l out e q = rw (fine-verdict h .0, ← e, lt-ltb l from q) ((refl, refl))
+    -- 10: no byte of the stream falls into the page
+    pub write-late : (from l : ℕ) (out out' : List ℕ) → l ≡ length (stream N n t root) → l < from → out' ≡ penned (stream N n t root) from out
+        → (record { number = 10; place = l; written = 0; length = 0 } ≡ writeAnswer N n root from t work out) × (out' ≡ writeOut N n root from t work out)
+    unfolding writeAnswer writeOut writePage writeVerdict startVerdict pageAfter writeAnswerOf refuseIf penned pageOf
+    write-late from l out out' e q eo =
+        let k : length (stream N n t root) ≤ from = omega arith in
+        let z : drop from (stream N n t root) ≡ [] = drop-of-length-le (stream N n t root) k in
+        rw (fine-verdict h, ← e, lt-ltb l from q) ((refl, eo ∙ rw (z, take-nil {A = ℕ} (length out))))
 
     -- the page
     pub write-page : (from l : ℕ) (out out' : List ℕ) (k : ℕ) → l ≡ length (stream N n t root) → from ≤ l → out' ≡ penned (stream N n t root) from out → k ≡ min (length out) (l - from)
@@ -95,15 +100,12 @@ module _ (N n root : ℕ) (t work : List ℕ) (c : Inspected) (ec : c ≡ inspec
     unfolding writeAnswer writeOut writePage writeVerdict startVerdict pageAfter writeAnswerOf refuseIf penned pageOf
     write-page from l out out' k e q eo ek =
         let w : length (take (length out) (drop from (stream N n t root))) ≡ k = simp (length-take, length-drop) (rw (← e) (sym ek)) in
-        rw (fine-verdict h .0, ← e, le-ltb l from q) ((rw w, eo))
+        rw (fine-verdict h, ← e, le-ltb l from q) ((rw w, eo))
 
     -- the work room after the check holds the whole numbering
     pub write-numbered : (u : List ℕ) → u ≡ checkWork N n root t work → NumberedFrom N n t root u
     unfolding checkWork workAfter
-    write-numbered u e = record { connected = write-limits .2; tail = drop (2 * n) work; room = e ∙ rw (fine-verdict h .0) }
-
-    pub write-bits : c .bits ≤ 401408
-    write-bits = let (L, A, C, w) = write-limits in omega (arith, fine-verdict h .1, symbols-few N n t root (L .dims .1) (L .darts .1) (C .rooted) A)
+    write-numbered u e = record { connected = write-limits .2; tail = drop (2 * n) work; room = e ∙ rw (fine-verdict h) }
 
 -- room for the bits that come: from the first pen, after the header, after the symbols
 pub fits-first : (k : ℕ) → k < 2 ^ 64 → PenFits k (record { at = 0; bits = 0; value = 0 })
@@ -115,5 +117,5 @@ fits-second N from x k h = x .fits k (fits-first (length (bitsOf 4 N) + k) (omeg
 pub fits-third : (N d from : ℕ) {p q : Pen} {o o' o'' : List ℕ} → Put (bitsOf 4 N) from (record { at = 0; bits = 0; value = 0 }) p o o' → Put (bitsOf 12 d) from p q o' o'' → (k : ℕ) → k < 2 ^ 50 → PenFits k q
 fits-third N d from x y k h = y .fits k (fits-second N from x (length (bitsOf 12 d) + k) (omega (arith, length-bits 12 d)))
 
-pub fits-last : (ss : List Bool) (from : ℕ) {q r : Pen} {o o' : List ℕ} → length ss ≤ 401408 → PenFits 401422 q → Put ss from q r o o' → PenFits 0 r
-fits-last ss from l f x = x .fits 0 (record { room = omega (arith, f .room); inByte = f .inByte; holds = f .holds })
+pub fits-last : (ss : List Bool) (from k : ℕ) → k ≤ 14 → {q r : Pen} {o o' : List ℕ} → length ss ≤ 401408 → PenFits 401422 q → Put ss from q r o o' → PenFits k r
+fits-last ss from k h l f x = x .fits k (record { room = omega (arith, f .room); inByte = f .inByte; holds = f .holds })

@@ -1,4 +1,4 @@
-// The writer: the numbering, which tells the stream's length before a byte is written, then a replay of the walk that puts the symbols' bits.
+// The writer: the check, which numbers the darts, then a replay of the walk that puts the symbols' bits and so comes to the stream's length.
 use pen::Pen;
 use rules::WriteAnswer;
 ghost use mathlib.Core.Path.{_≡_};
@@ -6,49 +6,49 @@ ghost use Prim.Native.Nat.{ℕ, _+_, _*_, _≤_, _<_};
 ghost use lib.ListN.{length, getD};
 ghost use Rattle.rules.specs.Map.{Limits, Valid};
 ghost use Rattle.rules.specs.Walk.{symbolsOf};
-ghost use Rattle.rules.specs.Stream.{codes};
+ghost use Rattle.rules.specs.Stream.{codes, filled};
 ghost use Rattle.rules.specs.Writing.{writeAnswer, writeOut, writeWork, stream};
+ghost use mathlib.Core.Bool.{Bool};
+ghost use mathlib.Core.List.{List};
 ghost use Rattle.walk.specs.Numbers.{writesIn};
-ghost use Rattle.pen.specs.Pens.{PenFits, Put, IndexFits, penned};
-ghost use Rattle.writer.specs.Replays.{Replayed, NumberedFrom};
+ghost use Rattle.pen.specs.Pens.{PenFits, Holds, Put, penned};
+ghost use Rattle.writer.specs.Replays.{Replays, Replayed, NumberedFrom};
 
-// Where the replay stands: the darts counted so far, the positions, and the pen.
+// Where the replay goes on: the rank, and the pen.
 pub struct Replay {
-    pub count: u16,
-    pub positions: [u16; 7],
+    pub rank: usize,
     pub pen: Pen,
 }
 
-// One step of the replay at the head of Lj: the numbering is finished, so a dart is new exactly when its number is not below the count.
+// One step of the replay at the head of Lj: the numbering is finished, so a dart is new exactly when its number is not below the count. A new dart leads back to rank 0.
 pub fn replay_step(
     tables: &[u16],
     work: &[u16],
+    ends: &mut [u16],
     dim: usize,
     darts: usize,
-    r: Replay,
     j: usize,
+    old: Pen,
     start: usize,
     out: &mut [u8],
 ) -> Replay
-    requires { ⌜ Limits dim darts (now tables) × (j ≤ dim) × (getD (r .positions) j 0 < 4096) × (darts + getD (r .positions) j 0 < length (now work)) × (r .count ≤ 4096) × PenFits 14 (r .pen) × IndexFits (writesIn dim darts (now tables) (now work) (r .count) j (getD (r .positions) j 0)) ⌝ }
-    ensures { λ q. ⌜ Replayed (writesIn dim darts (now (tables .entry)) (now (work .entry)) (r .count) j (getD (r .positions) j 0)) j start r q (now (out .entry)) (now (out .exit)) ⌝ }
+    requires { ⌜ Limits dim darts (now tables) × Valid dim darts (now tables) × (j ≤ dim) × (length (now ends) ≡ 8) × Replays dim darts (now tables) (now work) (now ends) j old ⌝ }
+    ensures { λ q. ⌜ Replayed (writesIn dim darts (now (tables .entry)) (now (work .entry)) (getD (now (ends .entry)) 0 0) j (getD (now (ends .entry)) (j + 1) 0)) j start old q (now (ends .entry)) (now (ends .exit)) (now (out .entry)) (now (out .exit)) ⌝ }
 {
-    let position = r.positions[j];
-    let count = r.count;
-    let old = r.pen;
+    let position = ends[j + 1];
+    ends[j + 1] = position + 1;
+    let count = ends[0];
     let s = walk::writes(tables, work, dim, darts, count, j, position);
-    let pen = pen::put_symbol(old, s, start, out);
-    let mut positions = r.positions;
-    positions[j] = position + 1;
     let next = walk::count_after(s, count);
-    Replay {
-        count: next,
-        positions,
-        pen,
+    ends[0] = next;
+    let pen = pen::put_symbol(old, s, start, out);
+    if next != count {
+        return Replay { rank: 0, pen };
     }
+    Replay { rank: j, pen }
 }
 
-// The symbols of the whole walk.
+// The symbols of the whole walk. Lj holds the numbers from ends[j + 1] up to ends[j], and ends[0] is the count.
 pub fn put_symbols(
     tables: &[u16],
     work: &[u16],
@@ -61,26 +61,44 @@ pub fn put_symbols(
     requires { ⌜ Limits dim darts (now tables) × Valid dim darts (now tables) × (2 * darts ≤ length (now work)) × PenFits 401422 pen × ((root : ℕ) × NumberedFrom dim darts (now tables) root (now work)) ⌝ }
     ensures { λ q. ⌜ ((root : ℕ) → NumberedFrom dim darts (now (tables .entry)) root (now (work .entry)) → Put (codes (symbolsOf dim darts (now (tables .entry)) root)) start pen q (now (out .entry)) (now (out .exit))) ⌝ }
 {
-    let mut r = Replay {
-        count: 1,
-        positions: [0u16; 7],
-        pen,
-    };
-    loop {
-        let positions = r.positions;
-        let j = walk::lowest(dim, r.count, positions);
-        if dim < j {
-            let last = r.pen;
-            return last;
+    let mut ends = [0u16; 8];
+    ends[0] = 1;
+    let mut r = Replay { rank: 0, pen };
+    while r.rank <= dim {
+        let j = r.rank;
+        let old = r.pen;
+        if ends[j] <= ends[j + 1] {
+            r.rank = j + 1;
+        } else {
+            r = replay_step(tables, work, &mut ends, dim, darts, j, old, start, out);
         }
-        r = replay_step(tables, work, dim, darts, r, j, start, out);
     }
+    let last = r.pen;
+    last
 }
 
-// Header, symbols, fill: the bytes of the page.
-pub fn emit(tables: &[u16], work: &[u16], dim: usize, darts: usize, start: usize, out: &mut [u8])
+// How many bytes a pen's bits come to once the last is filled.
+pub fn bytes_of(pen: Pen) -> usize
+    requires { ⌜ PenFits 8 pen ⌝ }
+    ensures { λ r. ⌜ ((bs : List Bool) (start : ℕ) (out0 out : List ℕ) → Holds bs start out0 pen out → r ≡ length (filled bs)) ⌝ }
+{
+    if 0 < pen.bits {
+        return pen.at + 1;
+    }
+    pen.at
+}
+
+// Header, symbols, fill: the bytes of the page. The answer is the stream's length.
+pub fn emit(
+    tables: &[u16],
+    work: &[u16],
+    dim: usize,
+    darts: usize,
+    start: usize,
+    out: &mut [u8],
+) -> usize
     requires { ⌜ Limits dim darts (now tables) × Valid dim darts (now tables) × (2 * darts ≤ length (now work)) × ((root : ℕ) × NumberedFrom dim darts (now tables) root (now work)) ⌝ }
-    ensures { λ q. ⌜ ((root : ℕ) → NumberedFrom dim darts (now (tables .entry)) root (now (work .entry)) → now (out .exit) ≡ penned (stream dim darts (now (tables .entry)) root) start (now (out .entry))) ⌝ }
+    ensures { λ r. ⌜ ((root : ℕ) → NumberedFrom dim darts (now (tables .entry)) root (now (work .entry)) → (r ≡ length (stream dim darts (now (tables .entry)) root)) × (now (out .exit) ≡ penned (stream dim darts (now (tables .entry)) root) start (now (out .entry)))) ⌝ }
 {
     let none = Pen {
         at: 0,
@@ -91,6 +109,7 @@ pub fn emit(tables: &[u16], work: &[u16], dim: usize, darts: usize, start: usize
     let second = pen::put_number(first, (darts - 1) as u16, 12, start, out);
     let last = put_symbols(tables, work, dim, darts, second, start, out);
     pen::fill(last, start, out);
+    bytes_of(last)
 }
 
 // The lesser of two.
@@ -115,7 +134,7 @@ pub fn write(
 ) -> WriteAnswer
     ensures { λ r. ⌜ (r ≡ writeAnswer dim darts root start (now (tables .entry)) (now (work .entry)) (now (out .entry))) × (now (work .exit) ≡ writeWork dim darts root (now (tables .entry)) (now (work .entry))) × (now (out .exit) ≡ writeOut dim darts root start (now (tables .entry)) (now (work .entry)) (now (out .entry))) ⌝ }
 {
-    let c = walk::inspect(dim, darts, root, tables, work);
+    let c = walk::check(dim, darts, root, tables, work);
     if c.number != 0 {
         return WriteAnswer {
             number: c.number,
@@ -124,22 +143,21 @@ pub fn write(
             length: 0,
         };
     }
-    // 16 bits of header, and up to 7 of fill
-    let length = (c.bits + 23) / 8;
-    if (length as usize) < start {
+    // a page that begins past the end has no byte of the stream, so nothing is written then
+    let length = emit(tables, work, dim, darts, start, out);
+    if length < start {
         return WriteAnswer {
             number: 10,
-            place: length,
+            place: length as u32,
             written: 0,
             length: 0,
         };
     }
-    emit(tables, work, dim, darts, start, out);
-    let written = least(out.len(), length as usize - start);
+    let written = least(out.len(), length - start);
     WriteAnswer {
         number: 0,
         place: 0,
         written: written as u32,
-        length,
+        length: length as u32,
     }
 }

@@ -26,7 +26,9 @@ follow-requires : tie.Need-follow-requires Inv-loop μ-loop
 follow-requires c κs = search needs
 
 known-requires : tie.Need-known-requires Inv-loop μ-loop
-known-requires c κs = search needs
+known-requires c κs =
+    let p = c .before .before .before .before .before .pre in
+    (p .0, p .1, p .2, p .3, rw (c .follow .ensures) (p .1 .inside _ _ (omega arith) (p .4)))
 
 returns : tie.Need-returns Inv-loop μ-loop
 unfolding deducingRank

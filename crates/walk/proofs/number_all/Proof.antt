@@ -1,21 +1,23 @@
--- `walk::number_all` meets its contract: the loop goes along the walk of the rules, and what is left to do from each turn is what was to do at the start.
--- Assumes nothing.
-use Prim.Native.Nat.{_-_}
-use mathlib.Core.Path.{_≡_, refl, sym}
+-- `walk::number_all` meets its contract: the loop goes along the walk of the rules, the queues below j are empty, and what is left to do from each turn is what was to do
+-- at the start. A turn makes a step or goes on to the next rank. Assumes nothing.
+use Prim.Native.Nat.{_+_, _*_, _-_, _≤_}
+use mathlib.Core.Path.{_≡_, refl, sym, _∙_}
 use native.Mathlib.Omega.{arith}
-use lib.ListN.{length}
+use lib.ListN.{length, drop, length-set}
 use borrow.Author.Needs.{needs}
 use Rattle.rules.specs.Lists.{sum}
 use Rattle.rules.specs.Walk.{enough}
-use Rattle.walk.proofs.Going.{Going, begins-going, ends-going, going-step, going-less, going-heads, going-bits, going-newcomer}
+use Rattle.walk.specs.Numbers.{unnumbered}
+use Rattle.walk.proofs.Going.{Going, standing, Emptied, emptied-next, emptied-after, lowest-head, lowest-past, begins-going, ends-going, next-within, going-headed, going-numbered, going-nearer}
 use Rattle.walk.proofs.number_all.Statement.{statement}
 use Rattle.walk.proofs.number_all.Tie as tie
 
 abbrev Inv-loop : tie.InvT-loop
-Inv-loop tables work₀ dim darts root w₀ work w = (length work ≡ length work₀) × Going dim darts tables root work₀ w work
+Inv-loop tables work₀ dim darts root ends₀ j₀ work ends j =
+    (length work ≡ length work₀) × (length ends ≡ 8) × (j ≤ dim + 1) × Emptied ends j × Going dim darts tables root work₀ (standing ends) work
 
 abbrev μ-loop : tie.MeasureT-loop
-μ-loop tables work₀ dim darts root w₀ work w = enough dim darts - sum (w .positions)
+μ-loop tables work₀ dim darts root ends₀ j₀ work ends j = (enough dim darts - sum (drop 1 ends)) * 8 + (7 - j)
 
 mul-blank : tie.Need-mul-blank Inv-loop μ-loop
 mul-blank c = omega arith
@@ -23,61 +25,94 @@ mul-blank c = omega arith
 blank-requires : tie.Need-blank-requires Inv-loop μ-loop
 blank-requires c κs = search needs
 
-cast-t15 : tie.Need-cast-t15 Inv-loop μ-loop
-cast-t15 c = omega arith
+cast-t14 : tie.Need-cast-t14 Inv-loop μ-loop
+cast-t14 c = omega arith
 
 give-number-requires : tie.Need-give-number-requires Inv-loop μ-loop
 give-number-requires c κs = search needs
+
+array-write-ends : tie.Need-array-write-ends Inv-loop μ-loop
+array-write-ends c = omega arith
 
 loop-holds : tie.Need-loop-holds Inv-loop μ-loop
 loop-holds c =
     let s = c .before .before .before .before .before .before .before .before .before .before in
     let a = s .args in
-    (refl, begins-going (a .dim) (a .darts) (a .tables .now) (a .root) (omega arith) (omega arith) (omega arith) (s .pre .3) (a .work .now) _ _ (c .before .before .before .before .before .before .blank .ensures) (c .before .before .give-number .ensures))
+    (refl, refl, omega arith, λ i l. absurd (omega arith), begins-going (a .dim) (a .darts) (a .tables .now) (a .root) (omega arith) (omega arith) (omega arith) (s .pre .3) (a .work .now) _ _ (c .before .before .before .before .before .before .blank .ensures) (c .before .before .give-number .ensures))
 
-lowest-requires : tie.Need-lowest-requires Inv-loop μ-loop
-lowest-requires c κs = omega arith
+mul-if1 : tie.Need-mul-if1 Inv-loop μ-loop
+mul-if1 c = omega arith
 
-same-length : tie.Need-same-length Inv-loop μ-loop
-same-length c = search needs
+array-read-if1 : tie.Need-array-read-if1 Inv-loop μ-loop
+array-read-if1 c = omega (arith, c .before .loop .inv .1)
 
-returns : tie.Need-returns Inv-loop μ-loop
-returns c =
-    let s = c .before .before .before .before .before .before .before .before .before .before .before .before .before .before in
-    let a = s .args in
-    ends-going (a .dim) (a .darts) (a .tables .now) (a .root) (omega arith) (omega arith) (omega arith) (s .pre .3) (a .work .now) _ _ (c .before .before .before .before .before .before .before .before .before .before .blank .ensures) (c .before .before .before .before .before .before .give-number .ensures) (c .before .before .before .loop .inv .1) (omega (arith, c .before .lowest .ensures))
+add-if1 : tie.Need-add-if1 Inv-loop μ-loop
+add-if1 c = omega arith
+
+mul-if1-2 : tie.Need-mul-if1-2 Inv-loop μ-loop
+mul-if1-2 c = omega arith
+
+array-read-if1-2 : tie.Need-array-read-if1-2 Inv-loop μ-loop
+array-read-if1-2 c = omega (arith, c .before .loop .inv .1)
+
+add-j : tie.Need-add-j Inv-loop μ-loop
+add-j c = omega arith
+
+loop-less : tie.Need-loop-less Inv-loop μ-loop
+loop-less c = omega arith
+
+loop-again : tie.Need-loop-again Inv-loop μ-loop
+loop-again c =
+    let l = c .before .before .loop in
+    (l .inv .0, l .inv .1, omega arith, emptied-next (l .ends) (l .j) (l .inv .3) (c .if1 .taken), l .inv .4)
+
+slice-aggregate-number-step : tie.Need-slice-aggregate-number-step Inv-loop μ-loop
+slice-aggregate-number-step c = search needs
 
 number-step-requires : tie.Need-number-step-requires Inv-loop μ-loop
 number-step-requires c κs =
     let s = c .before .before .before .before .before .before .before .before .before .before .before .before .before .before .before in
     let a = s .args in
     let l = c .before .before .before .before .loop in
-    let e = sym (c .before .before .lowest .ensures) in
-    let h = going-heads (a .dim) (a .darts) (a .tables .now) (a .root) (omega arith) (omega arith) (omega arith) (s .pre .3) _ (l .inv .1) _ e (omega arith) in
-    let q = going-bits (a .dim) (a .darts) (a .tables .now) (a .root) (omega arith) (omega arith) (omega arith) (s .pre .3) _ (l .inv .1) in (
-      s .pre .0,
-      omega arith,
-      omega (arith, h .position),
-      omega (arith, h .position),
-      omega (arith, h .count),
-      omega arith,
-      going-newcomer (a .dim) (a .darts) (a .tables .now) (a .root) (omega arith) (omega arith) (omega arith) (s .pre .3) _ (l .inv .1) _ e (omega arith) (omega arith),
+    let e = lowest-head (a .dim) (l .ends) (l .j) (omega arith) (l .inv .3) (c .before .before .if1 .left) in
+    (s .pre .0, s .pre .3, omega arith, l .inv .1, going-headed (a .dim) (a .darts) (a .tables .now) (a .root) (omega arith) (omega arith) (omega arith) (s .pre .3) _ (l .ends) (l .inv .4) (l .inv .1) (l .j) e (omega arith) (omega (arith, l .inv .0)))
+
+loop-less-2 : tie.Need-loop-less-2 Inv-loop μ-loop
+loop-less-2 c =
+    let s = c .before .before .before .before .before .before .before .before .before .before .before .before .before .before .before .before .before .before .before in
+    let a = s .args in
+    let l = c .before .before .before .before .before .before .before .before .loop in
+    let e = lowest-head (a .dim) (l .ends) (l .j) (omega arith) (l .inv .3) (c .before .before .before .before .before .before .if1 .left) in
+    let k = c .before .before .before .number-step in
+    rw (k .ensures .1) (omega (arith, going-nearer (a .dim) (a .darts) (a .tables .now) (a .root) (omega arith) (omega arith) (omega arith) (s .pre .3) _ (l .ends) (l .inv .4) (l .inv .1) (l .j) e (omega arith)))
+
+loop-again-2 : tie.Need-loop-again-2 Inv-loop μ-loop
+loop-again-2 c =
+    let s = c .before .before .before .before .before .before .before .before .before .before .before .before .before .before .before .before .before .before .before in
+    let a = s .args in
+    let l = c .before .before .before .before .before .before .before .before .loop in
+    let e = lowest-head (a .dim) (l .ends) (l .j) (omega arith) (l .inv .3) (c .before .before .before .before .before .before .if1 .left) in
+    let k = c .before .before .before .number-step in
+    let new = unnumbered (a .dim) (a .darts) (a .tables .now) (l .work) (l .ends) (l .j) in (
+      search needs,
+      search needs,
+      rw (k .ensures .0) (next-within new (l .j) (a .dim + 1) (l .inv .2)),
+      rw (k .ensures .0, k .ensures .1) (emptied-after new (l .ends) (l .j) (l .inv .3)),
+      rw (k .ensures .1, k .ensures .2) (going-numbered (a .dim) (a .darts) (a .tables .now) (a .root) (omega arith) (omega arith) (omega arith) (s .pre .3) _ (l .ends) (l .inv .4) (l .inv .1) (l .j) e (omega arith)),
     )
 
-loop-less : tie.Need-loop-less Inv-loop μ-loop
-loop-less c =
-    let s = c .before .before .before .before .before .before .before .before .before .before .before .before .before .before .before .before .before .before in
-    let a = s .args in
-    let l = c .before .before .before .before .before .before .before .loop in
-    rw (c .before .before .number-step .ensures .0) (going-less (a .dim) (a .darts) (a .tables .now) (a .root) (omega arith) (omega arith) (omega arith) (s .pre .3) _ (l .inv .1) _ (sym (c .before .before .before .before .before .lowest .ensures)) (omega arith))
+same-length : tie.Need-same-length Inv-loop μ-loop
+same-length c = search needs
 
-loop-again : tie.Need-loop-again Inv-loop μ-loop
-loop-again c =
-    let s = c .before .before .before .before .before .before .before .before .before .before .before .before .before .before .before .before .before .before in
+returns : tie.Need-returns Inv-loop μ-loop
+returns c =
+    let s = c .before .before .before .before .before .before .before .before .before .before .before .before in
     let a = s .args in
-    let l = c .before .before .before .before .before .before .before .loop in
-    let n = c .before .before .number-step .ensures in
-    (search needs, rw (n .0, n .1) (going-step (a .dim) (a .darts) (a .tables .now) (a .root) (omega arith) (omega arith) (omega arith) (s .pre .3) _ (l .inv .1) _ (sym (c .before .before .before .before .before .lowest .ensures)) (omega arith)))
+    let l = c .before .loop in
+    ends-going (a .dim) (a .darts) (a .tables .now) (a .root) (omega arith) (omega arith) (omega arith) (s .pre .3) (a .work .now) _ _ (c .before .before .before .before .before .before .before .before .blank .ensures) (c .before .before .before .before .give-number .ensures) (l .inv .4) (lowest-past (a .dim) (l .ends) (l .j) (l .inv .2) (omega arith) (l .inv .3))
 
 pub number-all-spec : {M : Type 1} → statement M
-number-all-spec = tie.close (tie.spec Inv-loop μ-loop mul-blank blank-requires cast-t15 give-number-requires loop-holds lowest-requires same-length returns number-step-requires loop-less loop-again)
+number-all-spec =
+    tie.close
+    (tie.spec Inv-loop μ-loop mul-blank blank-requires cast-t14 give-number-requires array-write-ends loop-holds mul-if1 array-read-if1 add-if1 mul-if1-2 array-read-if1-2 add-j loop-less loop-again slice-aggregate-number-step
+    number-step-requires loop-less-2 loop-again-2 same-length returns)

@@ -3,7 +3,7 @@ use native.Mathlib.Omega.{arith}
 use borrow.Author.Needs.{needs}
 use Rattle.rules.proofs.Streams.{symbols-few}
 use Rattle.pen.proofs.Laws.{holds-start}
-use Rattle.writer.proofs.Writes.{emitted, fits-second, fits-third, fits-last}
+use Rattle.writer.proofs.Writes.{emitted, emitted-length, fits-second, fits-third, fits-last}
 use Rattle.writer.proofs.emit.Statement.{statement}
 use Rattle.writer.proofs.emit.Tie as tie
 
@@ -32,15 +32,24 @@ fill-requires c κs =
     let s = c .before .before .before .before .before .before .before .before .before .before .before .before .before .before .before .before in
     let a = s .args in
     let q = s .pre .3 .1 in
-    fits-last _ _ (symbols-few (a .dim) (a .darts) (a .tables .now) (s .pre .3 .0) (omega (arith, s .pre .0)) (omega (arith, s .pre .0)) (q .connected .rooted) (s .pre .1))
-    (fits-third _ _ _ (c .before .before .before .before .before .before .before .before .before .before .before .put-number .ensures) (c .before .before .before .before .before .before .before .put-number2 .ensures) 401422 (omega arith)) (c .before .before .before .put-symbols .ensures (s .pre .3 .0) q)
+    fits-last _ _ 0 (omega arith) (symbols-few (a .dim) (a .darts) (a .tables .now) (s .pre .3 .0) (omega (arith, s .pre .0)) (omega (arith, s .pre .0)) (q .connected .rooted) (s .pre .1)) (fits-third _ _ _ (c .before .before .before .before .before .before .before .before .before .before .before .put-number .ensures) (c .before .before .before .before .before .before .before .put-number2 .ensures) 401422 (omega arith)) (c .before .before .before .put-symbols .ensures (s .pre .3 .0) q)
+
+bytes-of-requires : tie.Need-bytes-of-requires
+bytes-of-requires c κs =
+    let s = c .before .before .before .before .before .before .before .before .before .before .before .before .before .before .before .before .before .before .before in
+    let a = s .args in
+    let q = s .pre .3 .1 in
+    fits-last _ _ 8 (omega arith) (symbols-few (a .dim) (a .darts) (a .tables .now) (s .pre .3 .0) (omega (arith, s .pre .0)) (omega (arith, s .pre .0)) (q .connected .rooted) (s .pre .1)) (fits-third _ _ _ (c .before .before .before .before .before .before .before .before .before .before .before .before .before .before .put-number .ensures) (c .before .before .before .before .before .before .before .before .before .before .put-number2 .ensures) 401422 (omega arith)) (c .before .before .before .before .before .before .put-symbols .ensures (s .pre .3 .0) q)
 
 same-length : tie.Need-same-length
 same-length c = search needs
 
 returns : tie.Need-returns
-returns c = λ root q.
-    emitted _ _ _ root _ _ _ _ _ _ _ _ _ _ (holds-start _ _) (c .before .before .before .before .before .before .before .before .before .before .before .before .before .before .put-number .ensures) (c .before .before .before .before .before .before .before .before .before .before .put-number2 .ensures) (c .before .before .before .before .before .before .put-symbols .ensures root q) (c .before .before .fill .ensures)
+returns c = λ root q. (
+      emitted-length _ _ _ root _ _ _ _ _ _ _ _ _ _ (holds-start _ _) (c .before .before .before .before .before .before .before .before .before .before .before .before .before .before .before .put-number .ensures) (c .before .before .before .before .before .before .before .before .before .before .before .put-number2 .ensures) (c .before .before .before .before .before .before .before .put-symbols .ensures root q) (c .bytes-of .ensures),
+      emitted _ _ _ root _ _ _ _ _ _ _ _ _ _ (holds-start _ _) (c .before .before .before .before .before .before .before .before .before .before .before .before .before .before .before .put-number .ensures) (c .before .before .before .before .before .before .before .before .before .before .before .put-number2 .ensures) (c .before .before .before .before .before .before .before .put-symbols .ensures root q) (c .before .before .before .fill .ensures),
+    )
 
 pub emit-spec : {M : Type 1} → statement M
-emit-spec = tie.close (tie.spec cast-put-number put-number-requires sub-put-number cast-put-number-2 put-number-requires-2 put-symbols-requires fill-requires same-length returns)
+emit-spec =
+    tie.close (tie.spec cast-put-number put-number-requires sub-put-number cast-put-number-2 put-number-requires-2 put-symbols-requires fill-requires bytes-of-requires same-length returns)
