@@ -13,7 +13,10 @@ use Rattle.rules.specs.declared.ReadAnswer.{ReadAnswer}
 use Rattle.rules.specs.declared.State.the-variants as state
 use Rattle.rules.specs.Lists.{sum}
 use Rattle.rules.specs.Map.{Limits, blank, pairsOf, firstBroken}
-use Rattle.rules.specs.Walk.{Walk, steps}
+use Rattle.rules.specs.Walk.{Walk, linkOf, steps}
+use Rattle.rules.proofs.Positions.{gone, over}
+use Rattle.rules.proofs.Runs.{ran-ended}
+use Rattle.tables.specs.Darts.{Inside}
 use Rattle.rules.specs.Stream.{value}
 use Rattle.rules.specs.Reading.{Run, runAll, Reading, spoiled, test, manifold, finish, settle, goodAnswer, plainAnswer, answerOf, tablesOf}
 use Rattle.rules.specs.Session.{Left, idle, held, store, leaves}
@@ -25,7 +28,7 @@ use Rattle.steps.specs.declared.Signal.{Signal}
 use Rattle.steps.specs.declared.Signal.the-variants.{More, Ended, Waits, Refused}
 use Rattle.steps.specs.Turns.{walkAt, signalRun, toldRun, Runs}
 use Rattle.records.specs.declared.Paged.{Paged}
-use Rattle.records.specs.Lefts.{leftBy, idleBy, heldBy, Settles}
+use Rattle.records.specs.Lefts.{leftBy, idleBy, heldBy, Settles, Closes}
 
 left-of : (r : Paged) (t' : List ℕ) (s : Session) (a : ReadAnswer) (t : List ℕ) → r .session ≡ s → r .answer ≡ a → t' ≡ t → leftBy r t' ≡ record { session = s; answer = a; tables = t }
 unfolding leftBy
@@ -125,6 +128,9 @@ module _ (c : Cursor) (page : List ℕ) (x : Signal) (h : Settles x c page) wher
   pub owes-more : x ≡ More → ⊥
   owes-more q = rw q at h
 
+pub closes-ended : (x : Signal) (N n : ℕ) (s : Stand) (t : List ℕ) → Closes x N n s t → x ≡ Ended → s .count ≡ n → Inside N n t
+closes-ended x N n s t h q = rw q at h
+
 -- after a run the tables as they stood no longer matter
 test-same : (b : Bool) (nr : ℕ) (w : Walk) (x : Reading) (t u : List ℕ) → leaves x t ≡ leaves x u → leaves (test b nr w x) t ≡ leaves (test b nr w x) u
 unfolding test leaves tablesOf spoiled
@@ -157,6 +163,27 @@ module _ (N n : ℕ) (s : Stand) (c : Cursor) (t page : List ℕ) (dims : 1 ≤ 
       go More e = absurd (h .stops e)
       go Ended e = h .clean e
       go Waits e = h .short e
+      go (Refused nr) e = tt
+
+  -- at the walk's end every link of a numbered dart is known, and is a numbered dart
+  run-inside : r .signal ≡ Ended → r .stand .count ≡ n → Inside N n t'
+  unfolding walkAt runAll signalRun linkOf gone
+  run-inside e q = record {
+    inside = λ i d hi hd.
+        let w = walkAt N n (r .stand) t' in
+        let v = h .inv in
+        let o = ran-ended _ _ _ w _ (sym (rw e at (h .tells))) .1 in
+        let k = v .links .behind i d hi (omega (arith, over w (v .shape) o i hi)) in
+        omega (arith, v .links .far i d hi hd k);
+  }
+
+  pub run-closes : Closes (r .signal) N n (r .stand) t'
+  run-closes = go (r .signal) refl
+    where
+      go : (x : Signal) → r .signal ≡ x → Closes x N n (r .stand) t'
+      go More e = tt
+      go Ended e = run-inside e
+      go Waits e = tt
       go (Refused nr) e = tt
 
   pub run-left : (l : Left) → l ≡ leaves (settle (toldRun N n r t' page)) t' → l ≡ leaves (settle (runAll (walkAt N n s t) (atHand c page))) t

@@ -7,6 +7,7 @@ use Rattle.rules.specs.declared.Session.{Session}
 use Rattle.rules.specs.declared.State.{State}
 use Rattle.symbols.specs.declared.Cursor.{Cursor}
 use Rattle.symbols.specs.Cursors.{atHand}
+use Rattle.tables.specs.Darts.{Inside}
 use Rattle.steps.specs.declared.Stand.{Stand}
 use Rattle.steps.specs.declared.Signal.{Signal}
 use Rattle.steps.specs.declared.Signal.the-variants.{More, Ended, Waits, Refused}
@@ -31,3 +32,10 @@ Settles More c page = ⊥
 Settles Ended c page = c .waiting ≡ 0
 Settles Waits c page = length (atHand c page) ≤ 13
 Settles (Refused nr) c page = Unit
+
+-- at the walk's end every link is a dart if all darts are numbered
+abbrev pub Closes : Signal → ℕ → ℕ → Stand → List ℕ → Type 0
+Closes More N n s t = Unit
+Closes Ended N n s t = s .count ≡ n → Inside N n t
+Closes Waits N n s t = Unit
+Closes (Refused nr) N n s t = Unit

@@ -18,6 +18,7 @@ ghost use Rattle.rules.specs.Stream.{value};
 ghost use Rattle.rules.specs.Reading.{plainAnswer, goodAnswer, runAll};
 ghost use Rattle.rules.specs.Session.{leaves};
 ghost use Rattle.symbols.specs.Cursors.{CursorFits, atHand};
+ghost use Rattle.tables.specs.Darts.{Inside};
 ghost use Rattle.steps.specs.Turns.{walkAt, toldRun, Ready, Runs};
 ghost use Rattle.records.specs.Lefts.{leftBy};
 
@@ -165,7 +166,7 @@ pub fn finish(
     page: &[u8],
     tables: &mut [u16],
 ) -> Paged
-    requires { ⌜ Limits dim darts (now tables) × CursorFits c (now page) × (c .waiting ≡ 0) ⌝ }
+    requires { ⌜ Limits dim darts (now tables) × CursorFits c (now page) × (c .waiting ≡ 0) × (stand .count ≡ darts → Inside dim darts (now tables)) ⌝ }
     ensures { λ r. ⌜ leftBy r (now (tables .exit)) ≡ leaves (Rattle.rules.specs.Reading.finish (walkAt dim darts stand (now (tables .entry))) (atHand c (now (page .entry)))) (now (tables .entry)) ⌝ }
 {
     let count = stand.count as usize;
@@ -186,7 +187,7 @@ pub fn finish(
 
 // Where a run leaves the session.
 pub fn settle(dim: usize, darts: usize, t: Turned, page: &[u8], tables: &mut [u16]) -> Paged
-    requires { ⌜ Limits dim darts (now tables) × CursorFits (t .cursor) (now page) × Rattle.records.specs.Lefts.Settles (t .signal) (t .cursor) (now page) ⌝ }
+    requires { ⌜ Limits dim darts (now tables) × CursorFits (t .cursor) (now page) × Rattle.records.specs.Lefts.Settles (t .signal) (t .cursor) (now page) × Rattle.records.specs.Lefts.Closes (t .signal) dim darts (t .stand) (now tables) ⌝ }
     ensures { λ r. ⌜ leftBy r (now (tables .exit)) ≡ leaves (Rattle.rules.specs.Reading.settle (toldRun dim darts t (now (tables .entry)) (now (page .entry)))) (now (tables .entry)) ⌝ }
 {
     let stand = t.stand;

@@ -463,7 +463,7 @@ module _ (N : ℕ) (ends : List ℕ) where
   lowest-past j h l E = rw (lowest-emptied j h E, lowest-over (N + 1) j (getD ends j 0) (drop 1 ends) (omega arith)) l
 
 module _ (N n : ℕ) (m : List ℕ) (root : ℕ) (h6 : N ≤ 6) (hn : n ≤ 4096) (hr : root < n) (A : Valid N n m) (work0 ends : List ℕ) {work : List ℕ} (G : Going N n m root work0 (standing ends) work) (eight : length ends ≡ 8)
-  (j : ℕ) (e : lowestFrom (N + 1) 0 (getD ends 0 0) (drop 1 ends) ≡ j) (hj : j ≤ N) where
+    (j : ℕ) (e : lowestFrom (N + 1) 0 (getD ends 0 0) (drop 1 ends) ≡ j) (hj : j ≤ N) where
   case : NewOrOld n work (getD ends 0 0) (partnerIn N n m work ends j) (writesIn N n m work (getD ends 0 0) j (getD (drop 1 ends) j 0))
   unfolding partnerIn
   case = rw (← position-end ends j) (new-or-old N n m root h6 hn hr A work0 G j _ (going-head N n m root h6 hn hr A work0 G j e hj) refl)

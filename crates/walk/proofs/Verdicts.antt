@@ -118,8 +118,8 @@ module _ (N n : ℕ) (t : List ℕ) where
     unfolding outside
     twisted-inside = record {
       inside = λ i d hi hd.
-        let q = first-before (outside N n t) (size N n) (i * n + d) (omega (arith, all-inside, nth-below N n i d hi hd)) in
-        ltb-true (link N n t i d) n (not-false _ (rw (rank-nth n i d hd, dart-nth n i d hd) at q));
+          let q = first-before (outside N n t) (size N n) (i * n + d) (omega (arith, all-inside, nth-below N n i d hi hd)) in
+          ltb-true (link N n t i d) n (not-false _ (rw (rank-nth n i d hd, dart-nth n i d hd) at q));
     }
 
 -- a position fits 32 bits

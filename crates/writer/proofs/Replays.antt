@@ -298,7 +298,7 @@ moved-within false j k h = omega arith
 
 -- the replay over ends
 module _ (N n : ℕ) (m : List ℕ) (root : ℕ) (h6 : N ≤ 6) (hn : n ≤ 4096) (hr : root < n) (A : Valid N n m) (work : List ℕ) (Q : NumberedFrom N n m root work) (from : ℕ) (pen : Pen) (out ends : List ℕ)
-  {r : Pen} {o : List ℕ} (R : Replaying N n m root work from (getD ends 0 0) (drop 1 ends) pen r out o) (j : ℕ) (e : lowestFrom (N + 1) 0 (getD ends 0 0) (drop 1 ends) ≡ j) (hj : j ≤ N) where
+    {r : Pen} {o : List ℕ} (R : Replaying N n m root work from (getD ends 0 0) (drop 1 ends) pen r out o) (j : ℕ) (e : lowestFrom (N + 1) 0 (getD ends 0 0) (drop 1 ends) ≡ j) (hj : j ≤ N) where
   pub replay-asks : 2 * n ≤ length work → PenFits 401422 pen → Replays N n m work ends j r
   replay-asks hw f =
       let (p, c) = replay-heads N n m root h6 hn hr A work Q from pen out R j e hj in

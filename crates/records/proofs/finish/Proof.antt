@@ -24,7 +24,7 @@ returns : tie.Need-returns
 returns c = end-15 _ _ _ _ _ _ _ (c .before .before .before .before .if1 .taken) (c .before .before .spoiled .ensures)
 
 first-broken-requires : tie.Need-first-broken-requires
-first-broken-requires c κs = search needs
+first-broken-requires c κs = let p = c .before .before .before .before .before .pre in (p .0, p .3 (c .before .if1 .left))
 
 spoiled-requires-2 : tie.Need-spoiled-requires-2
 spoiled-requires-2 c κs = search needs

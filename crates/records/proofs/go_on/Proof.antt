@@ -1,5 +1,5 @@
 -- `records::go_on` meets its contract: a run, and where it leaves the session. Assumes nothing.
-use Rattle.records.proofs.Lefts.{run-limits, run-settles, run-left}
+use Rattle.records.proofs.Lefts.{run-limits, run-settles, run-closes, run-left}
 use borrow.Author.Needs.{needs}
 use Rattle.records.proofs.go_on.Statement.{statement}
 use Rattle.records.proofs.go_on.Tie as tie
@@ -15,7 +15,7 @@ settle-requires : tie.Need-settle-requires
 settle-requires c κs =
     let s = c .before .before .before .before .before .before .before in
     let k = c .before .before .before .run .ensures in
-    (run-limits _ _ _ _ _ _ (s .pre .dims) _ _ k, k .fits, run-settles _ _ _ _ _ _ (s .pre .dims) _ _ k)
+    (run-limits _ _ _ _ _ _ (s .pre .dims) _ _ k, k .fits, run-settles _ _ _ _ _ _ (s .pre .dims) _ _ k, run-closes _ _ _ _ _ _ (s .pre .dims) _ _ k)
 
 same-length : tie.Need-same-length
 same-length c = search needs

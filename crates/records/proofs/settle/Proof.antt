@@ -1,5 +1,5 @@
 -- `records::settle` meets its contract: by the run's signal. Assumes nothing.
-use Rattle.records.proofs.Lefts.{running-left, settled-refused, settled-ended, settled-waits, owes-ended, owes-waits, owes-more}
+use Rattle.records.proofs.Lefts.{running-left, settled-refused, settled-ended, settled-waits, owes-ended, closes-ended, owes-waits, owes-more}
 use borrow.Author.Needs.{needs}
 use Rattle.records.proofs.settle.Statement.{statement}
 use Rattle.records.proofs.settle.Tie as tie
@@ -20,7 +20,7 @@ enum-told : tie.Need-enum-told
 enum-told c = search needs
 
 finish-requires : tie.Need-finish-requires
-finish-requires c κs = let s = c .before .before .before .before .before .before .before in (s .pre .0, s .pre .1, owes-ended _ _ _ (s .pre .2) (c .before .enum-told .given .1))
+finish-requires c κs = let s = c .before .before .before .before .before .before .before in (s .pre .0, s .pre .1, owes-ended _ _ _ (s .pre .2) (c .before .enum-told .given .1), closes-ended _ _ _ _ _ (s .pre .3) (c .before .enum-told .given .1))
 
 enum-told-2 : tie.Need-enum-told-2
 enum-told-2 c = search needs

@@ -46,9 +46,9 @@ same-length c = search needs
 
 returns : tie.Need-returns
 returns c = λ root q. (
-      emitted-length _ _ _ root _ _ _ _ _ _ _ _ _ _ (holds-start _ _) (c .before .before .before .before .before .before .before .before .before .before .before .before .before .before .before .put-number .ensures) (c .before .before .before .before .before .before .before .before .before .before .before .put-number2 .ensures) (c .before .before .before .before .before .before .before .put-symbols .ensures root q) (c .bytes-of .ensures),
-      emitted _ _ _ root _ _ _ _ _ _ _ _ _ _ (holds-start _ _) (c .before .before .before .before .before .before .before .before .before .before .before .before .before .before .before .put-number .ensures) (c .before .before .before .before .before .before .before .before .before .before .before .put-number2 .ensures) (c .before .before .before .before .before .before .before .put-symbols .ensures root q) (c .before .before .before .fill .ensures),
-    )
+  emitted-length _ _ _ root _ _ _ _ _ _ _ _ _ _ (holds-start _ _) (c .before .before .before .before .before .before .before .before .before .before .before .before .before .before .before .put-number .ensures) (c .before .before .before .before .before .before .before .before .before .before .before .put-number2 .ensures) (c .before .before .before .before .before .before .before .put-symbols .ensures root q) (c .bytes-of .ensures),
+  emitted _ _ _ root _ _ _ _ _ _ _ _ _ _ (holds-start _ _) (c .before .before .before .before .before .before .before .before .before .before .before .before .before .before .before .put-number .ensures) (c .before .before .before .before .before .before .before .before .before .before .before .put-number2 .ensures) (c .before .before .before .before .before .before .before .put-symbols .ensures root q) (c .before .before .before .fill .ensures),
+)
 
 pub emit-spec : {M : Type 1} → statement M
 emit-spec =
