@@ -1,6 +1,6 @@
 -- Laws of the tests of fitness: a loop over all numbers below a bound, then each function's answers, one way through its code at a time. Rests on the
--- rules' Lists and Codes.
-use Prim.Native.Nat.{ℕ, suc, _+_, _*_, _-_, _/_, _%_, _≤_, _<_, _^_}
+-- rules' Lists, Places and Codes and the entry of `tables`.
+use Prim.Native.Nat.{ℕ, zero, suc, _+_, _*_, _-_, _/_, _≤_, _<_, _^_}
 use mathlib.Core.Path.{_≡_, refl, ap, sym, _∙_}
 use mathlib.Core.Logic.{_≢_}
 use mathlib.Core.Bool.{Bool, true, false, not, _&&_, _||_}
@@ -18,13 +18,15 @@ use Rattle.rules.specs.declared.State.{State}
 use Rattle.steps.specs.declared.Stand.{Stand}
 use Rattle.rules.specs.declared.State.the-variants.{Header, Running, Complete, Closed, Refused}
 use Rattle.rules.specs.Lists.{allBelow}
-use Rattle.rules.specs.Map.{dimFits, dartsFit, size, link, Limits}
+use Rattle.rules.specs.Map.{dimFits, dartsFit, size, place, link, Limits}
 use Rattle.rules.specs.Walk.{head}
 use Rattle.rules.specs.Stream.{bitsOf}
 use Rattle.rules.specs.Session.{walkOf, waitingOf, valueFits, onlyBits, positionsFit, entryFits, entriesFit, walkFits, asks, begins, allDone, fitAs, fit}
 use Rattle.rules.proofs.Lists.{and-left, and-right, or-left, or-right, not-both, all-below, below-all}
+use Rattle.rules.proofs.Places.{place-below, place-row, rank-nth, dart-nth}
 use Rattle.rules.proofs.Codes.{length-bits}
-use Rattle.fitness.specs.Parts.{fallsAt, isAt, overAt, entryBy, entryAt, standing, asksAt}
+use Rattle.tables.proofs.Laws.{entry-link}
+use Rattle.fitness.specs.Parts.{fallsAt, isAt, overAt, entryBy, entryOf, entryAt, allWithin, knownAt, openAt, blankAt, standing, asksAt}
 
 -- tests whose other side is known
 and-no : (a : Bool) → (a && false) ≡ false
@@ -35,13 +37,13 @@ and-yes : (a : Bool) → (a && true) ≡ a
 and-yes true = refl
 and-yes false = refl
 
+and-assoc : (a b c : Bool) → ((a && b) && c) ≡ (a && (b && c))
+and-assoc true b c = refl
+and-assoc false b c = refl
+
 or-no : (a : Bool) → (a || false) ≡ a
 or-no true = refl
 or-no false = refl
-
-or-yes : (a : Bool) → (a || true) ≡ true
-or-yes true = refl
-or-yes false = refl
 
 -- of the numbers below k, all before i pass the test
 pub record Passed (f : ℕ → Bool) (k i : ℕ) : Type 0 where
@@ -102,28 +104,160 @@ pub past-yes : (N : ℕ) (ps : List ℕ) (i : ℕ) → getD ps i 0 ≡ 0 → ove
 unfolding overAt
 past-yes N ps i e = or-right (leb i N) (eqb (getD ps i 0) 0) (eq-eqb (getD ps i 0) 0 e)
 
--- an entry
-module _ (N n : ℕ) (t : List ℕ) (c : ℕ) (ps : List ℕ) (k x : ℕ) (ex : x ≡ link N n t (k / n) (k % n)) (r : Bool) (er : r ≡ entryBy c (getD ps (k / n) 0) (k % n) x) where
-  pub entry-yes : not r ≡ false → entryAt N n t c ps k ≡ true
-  unfolding entryAt
-  entry-yes h = rw (← ex, ← er) (not-false r h)
+-- positions that fall are not above the count
+pub falls-below : (N c : ℕ) (ps : List ℕ) → allBelow (suc N) (fallsAt c ps) ≡ true → (i : ℕ) → i ≤ N → getD ps i 0 ≤ c
+unfolding fallsAt
+falls-below N c ps e zero h = leb-true (getD ps 0 0) c (all-below (suc N) (fallsAt c ps) e 0 (omega arith))
+falls-below N c ps e (suc i) h =
+    let l = leb-true (getD ps (suc i) 0) (getD ps i 0) (all-below (suc N) (fallsAt c ps) e (suc i) (omega arith)) in
+    omega (arith, l, falls-below N c ps e i (omega arith))
 
-  pub entry-no : not r ≡ true → entryAt N n t c ps k ≡ false
-  unfolding entryAt
-  entry-no h = rw (← ex, ← er) (not-true r h)
+-- a loop over the numbers from a up to b that counts those that fail the test: it has come to k
+pub record Counted (f : ℕ → Bool) (a b k bad : ℕ) : Type 0 where
+  pub upTo : k ≤ b
+  pub few : a + bad ≤ k
+  pub told : eqb bad 0 ≡ allWithin a k f
 
+pub counted-start : (f : ℕ → Bool) (a b : ℕ) → a ≤ b → Counted f a b a 0
+unfolding allWithin allBelow
+counted-start f a b h = let e : a - a ≡ 0 = omega arith in record { upTo = h; few = omega arith; told = rw e }
+
+within-next : (f : ℕ → Bool) (a k : ℕ) → a ≤ k → allWithin a (k + 1) f ≡ (f k && allWithin a k f)
+unfolding allWithin allBelow
+within-next f a k h =
+    let e : k + 1 - a ≡ suc (k - a) = omega arith in
+    let q : a + (k - a) ≡ k = omega arith in
+    rw (e, allBelow, q)
+
+module _ {f : ℕ → Bool} {a b k bad : ℕ} (r : Counted f a b k bad) where
+  pub counted-pass : k < b → f k ≡ true → Counted f a b (k + 1) bad
+  counted-pass h q = record { upTo = omega arith; few = omega (arith, r .few); told = r .told ∙ sym (rw q at (within-next f a k (omega (arith, r .few)))) }
+
+  pub counted-fail : k < b → f k ≡ false → Counted f a b (k + 1) (bad + 1)
+  counted-fail h q = record { upTo = omega arith; few = omega (arith, r .few); told = ne-eqb (bad + 1) 0 (omega arith) ∙ sym (rw q at (within-next f a k (omega (arith, r .few)))) }
+
+  pub counted-end : b ≤ k → eqb bad 0 ≡ allWithin a b f
+  counted-end h = let e : b ≡ k = omega (arith, r .upTo) in rw e (r .told)
+
+-- what each of the three loops asks of an entry
+module _ (t : List ℕ) (c k : ℕ) where
+  pub known-yes : getD t k 0 < c → knownAt t c k ≡ true
+  unfolding knownAt
+  known-yes h = lt-ltb (getD t k 0) c h
+
+  pub known-no : c ≤ getD t k 0 → knownAt t c k ≡ false
+  unfolding knownAt
+  known-no h = le-ltb (getD t k 0) c h
+
+  pub open-blank : getD t k 0 ≡ 65535 → openAt t c k ≡ true
+  unfolding openAt
+  open-blank e = or-right (ltb (getD t k 0) c) (eqb (getD t k 0) 65535) (eq-eqb (getD t k 0) 65535 e)
+
+  pub open-known : getD t k 0 < c → openAt t c k ≡ true
+  unfolding openAt
+  open-known h = or-left (ltb (getD t k 0) c) (eqb (getD t k 0) 65535) (lt-ltb (getD t k 0) c h)
+
+  pub open-no : getD t k 0 ≢ 65535 → c ≤ getD t k 0 → openAt t c k ≡ false
+  unfolding openAt
+  open-no e h = rw (le-ltb (getD t k 0) c h, ne-eqb (getD t k 0) 65535 e)
+
+pub blank-yes : (t : List ℕ) (k : ℕ) → getD t k 0 ≡ 65535 → blankAt t k ≡ true
+unfolding blankAt
+blank-yes t k e = eq-eqb (getD t k 0) 65535 e
+
+pub blank-no : (t : List ℕ) (k : ℕ) → getD t k 0 ≢ 65535 → blankAt t k ≡ false
+unfolding blankAt
+blank-no t k e = ne-eqb (getD t k 0) 65535 e
+
+-- tests that agree below a bound
+below-same : (k : ℕ) (f g : ℕ → Bool) → ((i : ℕ) → i < k → f i ≡ g i) → allBelow k f ≡ allBelow k g
+unfolding allBelow
+below-same zero f g h = refl
+below-same (suc k) f g h = rw (h k (omega arith), below-same k f g (λ i l. h i (omega arith)))
+
+-- a test below a + b is the test of the b numbers from a on and the one below a
+below-split : (a b : ℕ) (f : ℕ → Bool) → allBelow (a + b) f ≡ (allBelow b (λ k. f (a + k)) && allBelow a f)
+unfolding allBelow
+below-split a zero f = let e : a + 0 ≡ a = omega arith in rw e
+below-split a (suc b) f = let e : a + suc b ≡ suc (a + b) = omega arith in rw (e, allBelow, below-split a b f) (sym (and-assoc (f (a + b)) (allBelow b (λ k. f (a + k))) (allBelow a f)))
+
+-- a test below k * n is one of k rows of n numbers
+below-rows : (k n : ℕ) (f : ℕ → Bool) → allBelow (k * n) f ≡ allBelow k (λ i. allBelow n (λ d. f (i * n + d)))
+unfolding allBelow
+below-rows zero n f = let e : 0 * n ≡ 0 = omega arith in rw e
+below-rows (suc k) n f = let e : suc k * n ≡ k * n + n = omega arith in rw (e, below-split (k * n) n f, below-rows k n f)
+
+-- a test of the first b numbers is the test of those from a up to b, which g does at x further on, and of the first a
+module _ (f g : ℕ → Bool) (a b x : ℕ) (h : a ≤ b) (s : (d : ℕ) → a ≤ d → d < b → f d ≡ g (x + d)) where
+  part : allBelow b f ≡ (allWithin (x + a) (x + b) g && allBelow a f)
+  unfolding allWithin
+  part =
+      let e : b ≡ a + (b - a) = omega arith in
+      let m : x + b - (x + a) ≡ b - a = omega arith in
+      let q = below-same (b - a) (λ k. f (a + k)) (λ k. g (x + a + k)) (λ k l. s (a + k) (omega arith) (omega arith) ∙ ap g (omega arith)) in
+      ap (λ (k : ℕ). allBelow k f) e ∙ (below-split a (b - a) f ∙ rw m (ap (λ (y : Bool). y && allBelow a f) q))
+
+-- a dart's entry: before the rank's position, from there up to the count, and past it
 module _ (c p d x : ℕ) where
-  pub entry-unnumbered : c ≤ d → eqb x 65535 ≡ entryBy c p d x
+  entry-known : p ≤ c → c ≤ 65535 → d < p → entryBy c p d x ≡ ltb x c
   unfolding entryBy
-  entry-unnumbered h = rw (le-ltb d c h)
+  entry-known hp hc h = rw (lt-ltb d c (omega arith), lt-leb p d h) (go (ℕ-discrete x 65535))
+    where
+      go : Dec (x ≡ 65535) → ((ltb x c || eqb x 65535) && not (eqb x 65535)) ≡ ltb x c
+      go (yes e) = rw (eq-eqb x 65535 e, le-ltb x c (omega arith))
+      go (no e) = rw (ne-eqb x 65535 e, or-no, and-yes)
 
-  pub entry-none : d < c → x ≡ 65535 → leb p d ≡ entryBy c p d x
+  entry-open : p ≤ d → d < c → entryBy c p d x ≡ (ltb x c || eqb x 65535)
   unfolding entryBy
-  entry-none h e = rw (lt-ltb d c h, eq-eqb x 65535 e, or-yes, or-no)
+  entry-open h l = rw (lt-ltb d c l, le-leb p d h, and-yes)
 
-  pub entry-link : d < c → x ≢ 65535 → ltb x c ≡ entryBy c p d x
+  entry-blank : c ≤ d → entryBy c p d x ≡ eqb x 65535
   unfolding entryBy
-  entry-link h e = rw (lt-ltb d c h, ne-eqb x 65535 e, or-no, or-yes, and-yes)
+  entry-blank h = rw (le-ltb d c h)
+
+-- a rank, whose entries stand from x on: the answers for its three parts
+module _ (N n : ℕ) (t : List ℕ) (i : ℕ) (L : Limits N n t) (hi : i ≤ N) (x : ℕ) (ex : x ≡ place N n i 0) where
+  pub row-within : x + n ≤ length t
+  row-within = omega (arith, place-row N n i (n - 1), place-below N n i (n - 1) hi (omega arith))
+
+  entry-here : (d : ℕ) → d < n → link N n t i d ≡ getD t (x + d) 0
+  entry-here d h = sym (rw (place-row N n i d, ← ex) at (entry-link N n t i d L hi h))
+
+  module _ (c p : ℕ) (hc : c ≤ n) (hp : p ≤ c) where
+    abbrev fits : ℕ → Bool
+    fits = entryOf N n t c p i
+
+    knowns : allBelow p fits ≡ allWithin x (x + p) (knownAt t c)
+    unfolding entryOf knownAt allBelow
+    knowns =
+        let z : x + 0 ≡ x = omega arith in
+        rw (z, and-yes) at (part fits (knownAt t c) 0 p x (omega arith) (λ d h l. entry-known c p d (link N n t i d) hp (omega arith) l ∙ ap (λ (y : ℕ). ltb y c) (entry-here d (omega arith))))
+
+    opens : allBelow c fits ≡ (allWithin (x + p) (x + c) (openAt t c) && allBelow p fits)
+    unfolding entryOf openAt
+    opens = part fits (openAt t c) p c x hp (λ d h l. entry-open c p d (link N n t i d) h l ∙ ap (λ (y : ℕ). ltb y c || eqb y 65535) (entry-here d (omega arith)))
+
+    blanks : allBelow n fits ≡ (allWithin (x + c) (x + n) (blankAt t) && allBelow c fits)
+    unfolding entryOf blankAt
+    blanks = part fits (blankAt t) c n x hc (λ d h l. entry-blank c p d (link N n t i d) h ∙ ap (λ (y : ℕ). eqb y 65535) (entry-here d (omega arith)))
+
+    pub rank-open : (o : Bool) → o ≡ allWithin (x + p) (x + c) (openAt t c) → not o ≡ true → false ≡ allBelow n fits
+    rank-open o eo h = rw (blanks, opens, ← eo, not-true o h, and-no)
+
+    module _ (k : Bool) (ek : k ≡ allWithin x (x + p) (knownAt t c)) where
+      pub rank-known : not k ≡ true → false ≡ allBelow n fits
+      rank-known h = rw (blanks, opens, knowns, ← ek, not-true k h, and-no, and-no)
+
+      pub rank-blank : not k ≡ false → (o : Bool) → o ≡ allWithin (x + p) (x + c) (openAt t c) → not o ≡ false → (r : Bool) → r ≡ allWithin (x + c) (x + n) (blankAt t) → r ≡ allBelow n fits
+      rank-blank hk o eo ho r e = rw (blanks, opens, knowns, ← ek, not-false k hk, ← eo, not-false o ho, and-yes) e
+
+-- all entries, rank by rank
+abbrev pub rankAt : ℕ → ℕ → List ℕ → ℕ → List ℕ → ℕ → Bool
+rankAt N n t c ps i = allBelow n (entryOf N n t c (getD ps i 0) i)
+
+pub by-ranks : (N n : ℕ) (t : List ℕ) (c : ℕ) (ps : List ℕ) → allBelow (suc N) (rankAt N n t c ps) ≡ allBelow (size N n) (entryAt N n t c ps)
+unfolding entryAt
+by-ranks N n t c ps = sym (below-rows (suc N) n (entryAt N n t c ps) ∙ below-same (suc N) _ _ (λ i hi. below-same n _ _ (λ d hd. rw (rank-nth n i d hd, dart-nth n i d hd))))
 
 -- bits
 pub begins-many : (k x : ℕ) → 13 < k → false ≡ (leb k 13 && ltb x (2 ^ k) && begins (bitsOf k x))
@@ -320,7 +454,7 @@ module _ (s : Session) (t : List ℕ) where
                   walk-past h = rw (counted, ← ef, not-false f hf, ← ep, not-true p h)
 
                   pub walk-entries : not p ≡ false → (r : Bool) → r ≡ allBelow (size (s .dim) (s .darts)) (entryAt (s .dim) (s .darts) t (s .count) (s .positions)) → r ≡ walkFits s t
-                  unfolding walkFits positionsFit entriesFit entryFits fallsAt overAt entryAt entryBy
+                  unfolding walkFits positionsFit entriesFit entryFits fallsAt overAt entryAt entryOf entryBy
                   walk-entries h r e = rw (counted, ← ef, not-false f hf, ← ep, not-false p h) e
 
   -- what it says of the limits

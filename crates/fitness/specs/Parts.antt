@@ -1,9 +1,10 @@
 -- The tests of fitness one by one, over the numbers that each looks at. The rules' definitions are these at a session's fields.
-use Prim.Native.Nat.{ℕ, suc, _/_, _%_}
+use Prim.Native.Nat.{ℕ, suc, _+_, _-_, _/_, _%_}
 use mathlib.Core.List.{List, _∷_}
 use mathlib.Core.Bool.{Bool, not, _&&_, _||_, cond}
 use lib.ListN.{getD}
 use lib.Dec.{eqb, ltb, leb}
+use Rattle.rules.specs.Lists.{allBelow}
 use Rattle.rules.specs.Map.{mark, link}
 use Rattle.rules.specs.Walk.{Walk, head}
 use Rattle.rules.specs.Session.{queuesOf, asks}
@@ -24,9 +25,29 @@ overAt N positions i = leb i N || eqb (getD positions i 0) 0
 unfoldable pub entryBy : ℕ → ℕ → ℕ → ℕ → Bool
 entryBy c p d x = cond (ltb d c) ((ltb x c || eqb x mark) && (leb p d || not (eqb x mark))) (eqb x mark)
 
+-- the entry of dart d at rank i, whose position is p
+unfoldable pub entryOf : ℕ → ℕ → List ℕ → ℕ → ℕ → ℕ → ℕ → Bool
+entryOf N n t c p i d = entryBy c p d (link N n t i d)
+
 -- the k-th entry by rank, then dart
 unfoldable pub entryAt : ℕ → ℕ → List ℕ → ℕ → List ℕ → ℕ → Bool
-entryAt N n t c positions k = entryBy c (getD positions (k / n) 0) (k % n) (link N n t (k / n) (k % n))
+entryAt N n t c positions k = entryOf N n t c (getD positions (k / n) 0) (k / n) (k % n)
+
+-- the test passes at every number from a on that is below b
+unfoldable pub allWithin : ℕ → ℕ → (ℕ → Bool) → Bool
+allWithin a b f = allBelow (b - a) (λ k. f (a + k))
+
+-- what stands at place k is a number below c
+unfoldable pub knownAt : List ℕ → ℕ → ℕ → Bool
+knownAt t c k = ltb (getD t k 0) c
+
+-- it is a number below c or the mark
+unfoldable pub openAt : List ℕ → ℕ → ℕ → Bool
+openAt t c k = ltb (getD t k 0) c || eqb (getD t k 0) mark
+
+-- it is the mark
+unfoldable pub blankAt : List ℕ → ℕ → Bool
+blankAt t k = eqb (getD t k 0) mark
 
 -- the walk that count and positions stand for, over tables
 unfoldable pub standing : ℕ → ℕ → List ℕ → ℕ → List ℕ → Walk

@@ -6,14 +6,15 @@ use steps::Case;
 use steps::Stand;
 ghost use mathlib.Core.Path.{_≡_};
 ghost use mathlib.Core.Bool.{_&&_, _||_};
-ghost use Prim.Native.Nat.{suc, _≤_, _^_};
+ghost use Prim.Native.Nat.{ℕ, suc, _+_, _≤_, _^_};
+ghost use lib.ListN.{length, getD};
 ghost use lib.Dec.{eqb, ltb, leb};
 ghost use Rattle.rules.specs.Lists.{allBelow};
 ghost use Rattle.rules.specs.Map.{Limits, size};
 ghost use Rattle.rules.specs.Stream.{bitsOf};
 ghost use Rattle.rules.specs.Session.{valueFits, onlyBits, walkFits, allDone, fitAs};
 ghost use Rattle.rules.specs.declared.State.the-variants.{Running, Complete};
-ghost use Rattle.fitness.specs.Parts.{fallsAt, isAt, overAt, entryBy, entryAt, asksAt};
+ghost use Rattle.fitness.specs.Parts.{fallsAt, isAt, overAt, allWithin, knownAt, openAt, blankAt, entryOf, entryAt, asksAt};
 
 // The walk that a record stands for.
 pub fn stand_of(s: Session) -> Stand
@@ -90,20 +91,83 @@ pub fn positions_past(dim: usize, positions: [u16; 7]) -> bool
     true
 }
 
-// An entry x of a dart d at a rank whose position is p.
-pub fn entry_fits(count: u16, p: u16, d: u16, x: u16) -> bool
-    ensures { λ r. ⌜ r ≡ entryBy count p d x ⌝ }
+// The darts before a rank's position: each has a link to a numbered dart. This loop and the two after it count what is wrong and do not stop there, so that the
+// compiler can test many entries at once.
+pub fn known_fit(tables: &[u16], from: usize, to: usize, count: u16) -> bool
+    requires { ⌜ (from ≤ to) × (to ≤ from + 4096) × (to ≤ length (now tables)) ⌝ }
+    ensures { λ r. ⌜ r ≡ allWithin from to (knownAt (now (tables .entry)) count) ⌝ }
 {
-    if count <= d {
-        return x == Session::NO_LINK;
+    let mut bad: u16 = 0;
+    let mut k = from;
+    while k < to {
+        if count <= tables[k] {
+            bad += 1;
+        }
+        k += 1;
     }
-    if x == Session::NO_LINK {
-        return p <= d;
-    }
-    x < count
+    bad == 0
 }
 
-// Every entry, by rank, then dart.
+// The numbered darts from the position on: each has a link to a numbered dart or none.
+pub fn open_fit(tables: &[u16], from: usize, to: usize, count: u16) -> bool
+    requires { ⌜ (from ≤ to) × (to ≤ from + 4096) × (to ≤ length (now tables)) ⌝ }
+    ensures { λ r. ⌜ r ≡ allWithin from to (openAt (now (tables .entry)) count) ⌝ }
+{
+    let mut bad: u16 = 0;
+    let mut k = from;
+    while k < to {
+        let x = tables[k];
+        if x != Session::NO_LINK {
+            if count <= x {
+                bad += 1;
+            }
+        }
+        k += 1;
+    }
+    bad == 0
+}
+
+// The darts without a number: none has a link.
+pub fn blank_fit(tables: &[u16], from: usize, to: usize) -> bool
+    requires { ⌜ (from ≤ to) × (to ≤ from + 4096) × (to ≤ length (now tables)) ⌝ }
+    ensures { λ r. ⌜ r ≡ allWithin from to (blankAt (now (tables .entry))) ⌝ }
+{
+    let mut bad: u16 = 0;
+    let mut k = from;
+    while k < to {
+        if tables[k] != Session::NO_LINK {
+            bad += 1;
+        }
+        k += 1;
+    }
+    bad == 0
+}
+
+// Every entry of a rank.
+pub fn rank_fits(
+    tables: &[u16],
+    dim: usize,
+    darts: usize,
+    rank: usize,
+    count: u16,
+    position: u16,
+) -> bool
+    requires { ⌜ Limits dim darts (now tables) × (rank ≤ dim) × (count ≤ darts) × (position ≤ count) ⌝ }
+    ensures { λ r. ⌜ r ≡ allBelow darts (entryOf dim darts (now (tables .entry)) count position rank) ⌝ }
+{
+    let from = tables::place(dim, darts, rank, 0);
+    let passed = from + position as usize;
+    let numbered = from + count as usize;
+    if !known_fit(tables, from, passed, count) {
+        return false;
+    }
+    if !open_fit(tables, passed, numbered, count) {
+        return false;
+    }
+    blank_fit(tables, numbered, from + darts)
+}
+
+// Every entry, rank by rank.
 pub fn entries_fit(
     tables: &[u16],
     dim: usize,
@@ -111,19 +175,15 @@ pub fn entries_fit(
     count: u16,
     positions: [u16; 7],
 ) -> bool
-    requires { ⌜ Limits dim darts (now tables) ⌝ }
+    requires { ⌜ Limits dim darts (now tables) × (count ≤ darts) × ((i : ℕ) → i ≤ dim → getD positions i 0 ≤ count) ⌝ }
     ensures { λ r. ⌜ r ≡ allBelow (size dim darts) (entryAt dim darts (now (tables .entry)) count positions) ⌝ }
 {
-    let size = (dim + 1) * darts;
-    let mut k = 0;
-    while k < size {
-        let rank = k / darts;
-        let d = (k % darts) as u16;
-        let x = tables::link(tables, dim, darts, rank, d);
-        if !entry_fits(count, positions[rank], d, x) {
+    let mut rank = 0;
+    while rank <= dim {
+        if !rank_fits(tables, dim, darts, rank, count, positions[rank]) {
             return false;
         }
-        k += 1;
+        rank += 1;
     }
     true
 }

@@ -1,6 +1,8 @@
 -- `fitness::walk_fits` meets its contract: each answer is what the tests before it leave. Assumes nothing.
+use mathlib.Core.Path.{sym, _∙_}
 use borrow.Author.Needs.{needs}
-use Rattle.fitness.proofs.Laws.{few-entries, walk-low, walk-high, walk-none, walk-many, walk-short, walk-empty, walk-over, walk-rising, walk-past, walk-entries}
+use borrow.Author.Tests.{not-false}
+use Rattle.fitness.proofs.Laws.{falls-below, few-entries, walk-low, walk-high, walk-none, walk-many, walk-short, walk-empty, walk-over, walk-rising, walk-past, walk-entries}
 use Rattle.fitness.proofs.walk_fits.Statement.{statement}
 use Rattle.fitness.proofs.walk_fits.Tie as tie
 
@@ -57,7 +59,9 @@ returns-9 c =
     walk-past _ _ (g .before .before .before .before .before .before .if1 .left) (g .before .before .before .before .before .if2 .left) (g .before .before .before .before .if3 .left) (g .before .before .before .if4 .left) (g .before .before .if5 .left) (g .before .if6 .left) (g .if7 .left) _ (c .before .before .before .positions-fall .ensures) (c .before .before .if8 .left) _ (c .before .positions-past .ensures) (c .if9 .taken)
 
 entries-fit-requires : tie.Need-entries-fit-requires
-entries-fit-requires c κs = search needs
+entries-fit-requires c κs =
+    let f = c .before .before .before in
+    (search needs, search needs, falls-below _ _ _ (sym (f .positions-fall .ensures) ∙ not-false _ (c .before .before .if8 .left)))
 
 returns-10 : tie.Need-returns-10
 returns-10 c =
