@@ -1,5 +1,6 @@
 -- `fitness::walk_fits` meets its contract: each answer is what the tests before it leave. Assumes nothing.
 use mathlib.Core.Path.{sym, _∙_}
+use native.Mathlib.Omega.{arith}
 use borrow.Author.Needs.{needs}
 use borrow.Author.Tests.{not-false}
 use Rattle.fitness.proofs.Laws.{falls-below, few-entries, walk-low, walk-high, walk-none, walk-many, walk-short, walk-empty, walk-over, walk-rising, walk-past, walk-entries}
@@ -60,8 +61,8 @@ returns-9 c =
 
 entries-fit-requires : tie.Need-entries-fit-requires
 entries-fit-requires c κs =
-    let f = c .before .before .before in
-    (search needs, search needs, falls-below _ _ _ (sym (f .positions-fall .ensures) ∙ not-false _ (c .before .before .if8 .left)))
+    let l = falls-below _ _ _ (sym (c .before .before .before .positions-fall .ensures) ∙ not-false _ (c .before .before .if8 .left)) in
+    (search needs, search needs, λ i h. omega (arith, l i h))
 
 returns-10 : tie.Need-returns-10
 returns-10 c =
