@@ -1,27 +1,27 @@
--- Laws of the pen: a byte more in the page, a bit more, bits after bits, the fill, and how a caller begins. Rests on the laws of bits.
+-- Laws of the pen: a byte more in the page, bits after bits, a number's bits, the fill, and how a caller begins. Rests on the laws of bits.
 use Prim.Native.Nat.{ℕ, suc, _+_, _*_, _-_, _/_, _%_, _≤_, _<_, _^_}
-use mathlib.Core.Path.{_≡_, refl, sym, _∙_}
+use mathlib.Core.Path.{_≡_, refl, ap, sym, _∙_}
 use mathlib.Core.Bool.{Bool, false}
 use mathlib.Core.List.{List, [], _∷_, _++_, append-assoc, append-nil}
 use native.Mathlib.Omega.{arith}
-use native.Mathlib.Nat.{pow-suc}
+use native.Mathlib.Nat.{zero-add, zero-mul, mod-lt}
 use native.Mathlib.Decide.{decLt}
 use lib.ListN.{length, getD, set, take, drop, replicate, length-append, length-take, length-drop, length-replicate, drop-of-length-le}
 use lib.Seq.{take-nil, drop-nil, take-all, take-append-le, drop-append-le, drop-cons, set-at, set-out}
-use lib.Dec.{eqb}
-use lib.Pow.{pow-mono, shl-exact, shl-lt}
+use lib.Arith.{digits-lt}
+use lib.Pow.{pow-add, pow-pos, pow-mono, shl-exact, shr-lt}
 use borrow.Author.Tests.{lt-ltb, le-ltb}
 use Rattle.rules.specs.declared.Dart.{Dart}
 use Rattle.rules.specs.declared.WalkNo.{WalkNo}
 use Rattle.rules.specs.Stream.{bitsOf, value, pack, code, codes, filled}
 use Rattle.rules.specs.Writing.{pageOf}
-use Rattle.rules.proofs.Codes.{length-pack, value-more, length-bits, value-lt, filled-exact}
+use Rattle.rules.proofs.Codes.{length-pack, length-bits, value-lt, value-bits, value-append, value-zeros, bits-join, bits-split, filled-exact}
 use Rattle.walk.specs.declared.Output.{Output}
 use Rattle.walk.specs.declared.Output.the-variants.{Nothing, Border, New, Index}
 use Rattle.walk.proofs.Laws.{symbolsFor}
 use Rattle.pen.specs.declared.Pen.{Pen}
 use Rattle.pen.specs.Pens.{stored, penned, PenFits, Holds, Put, IndexFits}
-use Rattle.pen.proofs.Bits.{bit-number, value-zeros-more, bits-next, pack-front, pack-whole}
+use Rattle.pen.proofs.Bits.{pack-front, pack-whole}
 
 -- the code's three ways to store
 module _ (start at byte : ℕ) (out : List ℕ) where
@@ -88,25 +88,16 @@ put-both {a} {b} {start} {p} {q} {r} {o} {o'} {o''} u v = record {
   fits = λ k f. v .fits k (u .fits (length b + k) (record { room = omega (arith, f .room, length-append a b); inByte = f .inByte; holds = f .holds }));
 }
 
--- the bits gathered, and those with zero bits that make the byte whole, as the code shifts them
+-- the bits gathered and j bits more, as the code shifts them
 module _ {k : ℕ} {pen : Pen} (f : PenFits k pen) where
-  fits-small : 2 * pen .value < 2 ^ suc (pen .bits)
-  fits-small = omega (arith, f .holds, pow-suc 2 (pen .bits))
+  gathered : (j : ℕ) {b : ℕ} → b < 2 ^ j → pen .value * 2 ^ j + b < 2 ^ (pen .bits + j)
+  gathered j h = rw (pow-add 2 (pen .bits) j) (digits-lt (f .holds) h)
 
-  pub byte-small : 2 * pen .value + 1 < 256
-  byte-small = let p : 2 ^ suc (pen .bits) ≤ 2 ^ 8 = pow-mono {i = suc (pen .bits)} {j = 8} (omega (arith, f .inByte)) in omega (arith, fits-small)
+  shifted : (j : ℕ) → pen .bits + j ≤ 8 → pen .value * 2 ^ j % 65536 ≡ pen .value * 2 ^ j
+  shifted j l = shl-exact (pen .bits) j 16 (f .holds) (omega arith)
 
-  shifted : pen .value * 2 ^ (8 - pen .bits) % 65536 ≡ pen .value * 2 ^ (8 - pen .bits)
-  shifted = shl-exact (pen .bits) (8 - pen .bits) 16 (f .holds) (omega (arith, f .inByte))
-
-  pub shifted-small : pen .value * 2 ^ (8 - pen .bits) % 65536 < 256
-  shifted-small =
-      let n : pen .bits + (8 - pen .bits) ≡ 8 = omega (arith, f .inByte) in
-      let l : pen .value * 2 ^ (8 - pen .bits) < 2 ^ 8 = rw n at (shl-lt (pen .bits) (8 - pen .bits) (f .holds)) in
-      rw shifted l
-
-  pub fits-less : (j : ℕ) → j ≤ k → PenFits j pen
-  fits-less j l = record { room = omega (arith, f .room); inByte = f .inByte; holds = f .holds }
+  pub byte-small : (j b : ℕ) → pen .bits + j ≤ 8 → b < 2 ^ j → pen .value * 2 ^ j % 65536 + b < 256
+  byte-small j b l h = rw (shifted j l) (omega (arith, gathered j h, pow-mono {i = pen .bits + j} {j = 8} l))
 
 -- bytes done, with the byte that the bits at hand and more make whole
 module _ {bs : List Bool} {start : ℕ} {out0 : List ℕ} {pen : Pen} {out : List ℕ} (h : Holds bs start out0 pen out) where
@@ -117,36 +108,38 @@ module _ {bs : List Bool} {start : ℕ} {out0 : List ℕ} {pen : Pen} {out : Lis
       let l = length-pack k bs in
       rw (pack-whole k bs more (omega arith) w, penned-more (pack k bs) (value (drop (8 * k) bs ++ more)) start out0, l, ← h .page, h .at)
 
-  value-bit : (bit : ℕ) → bit < 2 → value (drop (8 * (length bs / 8)) bs ++ (eqb bit 1 ∷ [])) ≡ 2 * pen .value + bit
-  value-bit bit l = rw (value-more (drop (8 * (length bs / 8)) bs) (eqb bit 1), bit-number bit l, h .value)
+  value-all : (more : List Bool) → value (drop (8 * (length bs / 8)) bs ++ more) ≡ pen .value * 2 ^ length more + value more
+  value-all more = rw (value-append (drop (8 * (length bs / 8)) bs) more, h .value)
 
-  -- a bit within a byte
-  bit-within : (bit : ℕ) → bit < 2 → pen .bits < 7 → Holds (bs ++ (eqb bit 1 ∷ [])) start out0 (record { at = pen .at; bits = pen .bits + 1; value = 2 * pen .value + bit }) out
-  bit-within bit l few =
-      let n : length (bs ++ (eqb bit 1 ∷ [])) ≡ length bs + 1 = length-append bs (eqb bit 1 ∷ []) in
+  -- bits within a byte
+  holds-within : (more : List Bool) → pen .bits + length more < 8
+      → Holds (bs ++ more) start out0 (record { at = pen .at; bits = pen .bits + length more; value = pen .value * 2 ^ length more + value more }) out
+  holds-within more few =
+      let n : length (bs ++ more) ≡ length bs + length more = length-append bs more in
       let hb = h .bits in
-      let q : (length bs + 1) / 8 ≡ length bs / 8 = omega arith in
+      let q : (length bs + length more) / 8 ≡ length bs / 8 = omega arith in
       let le : 8 * (length bs / 8) ≤ length bs = omega arith in
       record {
         at = rw (n, q) (h .at);
         bits = rw n (omega arith);
-        value = rw (n, q, drop-append-le (8 * (length bs / 8)) bs (eqb bit 1 ∷ []) le) (sym (value-bit bit l));
-        page = rw (n, q, pack-front (length bs / 8) bs (eqb bit 1 ∷ []) le) (h .page);
+        value = rw (n, q, drop-append-le (8 * (length bs / 8)) bs more le) (sym (value-all more));
+        page = rw (n, q, pack-front (length bs / 8) bs more le) (h .page);
       }
 
-  -- a bit that makes a byte whole
-  bit-over : (bit : ℕ) → bit < 2 → pen .bits ≡ 7 → Holds (bs ++ (eqb bit 1 ∷ [])) start out0 (record { at = pen .at + 1; bits = 0; value = 0 }) (stored start (pen .at) (2 * pen .value + bit) out)
+  -- bits that make a byte whole
+  holds-whole : (more : List Bool) → 0 < length more → pen .bits + length more ≡ 8
+      → Holds (bs ++ more) start out0 (record { at = pen .at + 1; bits = 0; value = 0 }) (stored start (pen .at) (pen .value * 2 ^ length more + value more) out)
   unfolding value
-  bit-over bit l full =
-      let n : length (bs ++ (eqb bit 1 ∷ [])) ≡ length bs + 1 = length-append bs (eqb bit 1 ∷ []) in
+  holds-whole more some full =
+      let n : length (bs ++ more) ≡ length bs + length more = length-append bs more in
       let hb = h .bits in
-      let q : (length bs + 1) / 8 ≡ suc (length bs / 8) = omega arith in
-      let le : length (bs ++ (eqb bit 1 ∷ [])) ≤ 8 * suc (length bs / 8) = omega arith in
+      let q : (length bs + length more) / 8 ≡ suc (length bs / 8) = omega arith in
+      let le : length (bs ++ more) ≤ 8 * suc (length bs / 8) = omega arith in
       record {
         at = rw (n, q) (omega (arith, h .at));
         bits = rw n (omega arith);
-        value = rw (n, q, drop-of-length-le (bs ++ (eqb bit 1 ∷ [])) le);
-        page = rw (n, q, ← value-bit bit l) (whole (eqb bit 1 ∷ []) (omega arith));
+        value = rw (n, q, drop-of-length-le (bs ++ more) le);
+        page = rw (n, q, ← value-all more) (whole more (omega arith));
       }
 
   -- the fill
@@ -156,57 +149,82 @@ module _ {bs : List Bool} {start : ℕ} {out0 : List ℕ} {pen : Pen} {out : Lis
       let left = 8 - pen .bits in
       let n : length (replicate left false) ≡ left = length-replicate left false in
       let w : length bs + left ≡ 8 * suc (length bs / 8) = omega arith in
-      let v : value (drop (8 * (length bs / 8)) bs ++ replicate left false) ≡ pen .value * 2 ^ left = rw (value-zeros-more left (drop (8 * (length bs / 8)) bs), h .value) in
+      let v : value (drop (8 * (length bs / 8)) bs ++ replicate left false) ≡ pen .value * 2 ^ left = rw (value-all (replicate left false), n, value-zeros left) (omega arith) in
       let g : filled bs ≡ pack (suc (length bs / 8)) (bs ++ replicate left false) = filled-exact bs left (suc (length bs / 8)) w (omega arith) in
-      rw (e, shifted f, g, ← v) (whole (replicate left false) (omega arith))
+      rw (e, shifted f left (omega arith), g, ← v) (whole (replicate left false) (omega arith))
 
   pub fill-none : pen .bits ≡ 0 → out ≡ penned (filled bs) start out0
   fill-none e =
       let hb = h .bits in
       rw (filled-exact bs 0 (length bs / 8) (omega arith) (omega arith), append-nil bs) (h .page)
 
-  -- what a caller knows of the pen by the bits so far
-  pub holds-fits : (k : ℕ) → length bs + k < 2 ^ 64 → PenFits k pen
-  holds-fits k l =
-      let bits = drop (8 * (length bs / 8)) bs in
-      let hb = h .bits in
-      let n : length bits ≡ pen .bits = length-drop (8 * (length bs / 8)) bs ∙ omega arith in
-      record { room = omega (arith, h .at); inByte = omega arith; holds = rw (h .value, ← n) (value-lt bits) }
-
--- one bit more
-module _ (pen : Pen) (bit start : ℕ) (out : List ℕ) (one : bit < 2) where
-  pub put-within : pen .bits < 7 → Put (eqb bit 1 ∷ []) start pen (record { at = pen .at; bits = pen .bits + 1; value = 2 * pen .value + bit }) out out
+-- bits more, within a byte or to its end
+module _ (start : ℕ) (pen : Pen) (out : List ℕ) (more : List Bool) where
+  put-within : pen .bits + length more < 8 → Put more start pen (record { at = pen .at; bits = pen .bits + length more; value = pen .value * 2 ^ length more + value more }) out out
   put-within few = record {
-    holds = λ bs out0 h. bit-within h bit one few;
-    fits = λ k f. record { room = omega (arith, f .room); inByte = omega arith; holds = let e : pen .bits + 1 ≡ suc (pen .bits) = omega arith in rw e (omega (arith, fits-small f)) };
+    holds = λ bs out0 h. holds-within h more few;
+    fits = λ k f. record { room = omega (arith, f .room); inByte = few; holds = gathered f (length more) (value-lt more) };
   }
 
-  pub put-over : pen .bits ≡ 7 → (out' : List ℕ) → out' ≡ stored start (pen .at) (2 * pen .value + bit) out → Put (eqb bit 1 ∷ []) start pen (record { at = pen .at + 1; bits = 0; value = 0 }) out out'
-  put-over full out' e = record {
-    holds = λ bs out0 h. rw e (bit-over h bit one full);
+  put-whole : 0 < length more → pen .bits + length more ≡ 8
+      → Put more start pen (record { at = pen .at + 1; bits = 0; value = 0 }) out (stored start (pen .at) (pen .value * 2 ^ length more + value more) out)
+  put-whole some full = record {
+    holds = λ bs out0 h. holds-whole h more some full;
     fits = λ k f. record { room = omega (arith, f .room); inByte = omega arith; holds = omega arith };
   }
 
--- a number in k bits: all but the last `left` of them were put
-pub number-start : (k v start : ℕ) (pen : Pen) (out : List ℕ) → Put (bitsOf (k - k) (v / 2 ^ k)) start pen pen out out
-unfolding bitsOf
-number-start k v start pen out = let e : k - k ≡ 0 = omega arith in rw e (put-none start pen out)
+-- a number in k bits, at most a byte of them, as the code shifts it
+module _ {j : ℕ} {pen : Pen} (f : PenFits j pen) (v k : ℕ) (few : k ≤ 8) (small : v < 2 ^ k) where
+  pub few-within : pen .bits + k < 8 → (start : ℕ) (out : List ℕ) → Put (bitsOf k v) start pen (record { at = pen .at; bits = pen .bits + k; value = pen .value * 2 ^ k % 65536 + v }) out out
+  few-within l start out = rw (shifted f k (omega arith)) (rw (length-bits k v, value-bits k v small) at (put-within start pen out (bitsOf k v) (omega (arith, length-bits k v))))
 
-module _ (k v left : ℕ) {start : ℕ} {p q : Pen} {o o' : List ℕ} (u : Put (bitsOf (k - left) (v / 2 ^ left)) start p q o o') where
-  pub number-fits : PenFits k p → 0 < left → left ≤ k → PenFits 1 q
-  number-fits f h l = u .fits 1 (fits-less f (length (bitsOf (k - left) (v / 2 ^ left)) + 1) (omega (arith, length-bits (k - left) (v / 2 ^ left))))
+  -- the bits that its byte wants, and those left
+  module _ (many : 8 ≤ pen .bits + k) where
+    halves : 8 - pen .bits + (pen .bits + k - 8) ≡ k
+    halves = omega (arith, f .inByte)
 
-  pub number-next : {r : Pen} {o'' : List ℕ} → 0 < left → left ≤ k → v < 2 ^ k → Put (eqb (v / 2 ^ (left - 1) % 2) 1 ∷ []) start q r o' o'' → Put (bitsOf (k - (left - 1)) (v / 2 ^ (left - 1))) start p r o o''
-  number-next {r} {o''} h l hv w =
-      let e : suc (left - 1) ≡ left = omega arith in
-      let n : bitsOf (k - (left - 1)) (v / 2 ^ (left - 1)) ≡ bitsOf (k - left) (v / 2 ^ left) ++ (eqb (v / 2 ^ (left - 1) % 2) 1 ∷ []) = rw e at (bits-next k v (left - 1) (omega arith) hv) in
-      rw n (put-both u w)
+    high-small : v / 2 ^ (pen .bits + k - 8) < 2 ^ (8 - pen .bits)
+    high-small = shr-lt (8 - pen .bits) (pen .bits + k - 8) (rw halves small)
 
-  pub number-end : left ≡ 0 → Put (bitsOf k v) start p q o o'
-  number-end e =
-      let d : k - left ≡ k = omega arith in
-      let w : v / 2 ^ left ≡ v = rw e (omega arith) in
-      rw (d, w) at u
+    pub whole-small : pen .value * 2 ^ (8 - pen .bits) % 65536 + v / 2 ^ (pen .bits + k - 8) < 256
+    whole-small = byte-small f (8 - pen .bits) (v / 2 ^ (pen .bits + k - 8)) (omega (arith, f .inByte)) high-small
+
+    weight : 1 * 2 ^ (pen .bits + k - 8) % 65536 ≡ 2 ^ (pen .bits + k - 8)
+    weight = shl-exact 1 (pen .bits + k - 8) 16 (omega arith) (omega (arith, f .inByte)) ∙ omega arith
+
+    pub weight-some : 0 < 1 * 2 ^ (pen .bits + k - 8) % 65536
+    weight-some = rw weight (pow-pos (pen .bits + k - 8))
+
+    pub few-over : (start : ℕ) (out out' : List ℕ) → out' ≡ stored start (pen .at) (pen .value * 2 ^ (8 - pen .bits) % 65536 + v / 2 ^ (pen .bits + k - 8)) out
+        → Put (bitsOf k v) start pen (record { at = pen .at + 1; bits = pen .bits + k - 8; value = v % (1 * 2 ^ (pen .bits + k - 8) % 65536) }) out out'
+    few-over start out out' e =
+        let i = f .inByte in
+        let room = 8 - pen .bits in
+        let left = pen .bits + k - 8 in
+        let hi = v / 2 ^ left in
+        let lo = v % 2 ^ left in
+        let n = length-bits room hi in
+        let m = length-bits left lo in
+        let next : Pen = record { at = pen .at + 1; bits = 0; value = 0 } in
+        let whole : Put (bitsOf room hi) start pen next out out' = rw (e, shifted f room (omega arith)) (rw (n, value-bits room hi high-small) at (put-whole start pen out (bitsOf room hi) (omega arith) (omega arith))) in
+        let rest = simp (m, value-bits left lo (mod-lt v (pow-pos left)), zero-mul, zero-add) at (put-within start next out' (bitsOf left lo) (omega arith)) in
+        let b : bitsOf k v ≡ bitsOf room hi ++ bitsOf left lo = ap (λ (n : ℕ). bitsOf n v) (sym halves) ∙ bits-split room left v (rw halves small) in
+        rw (weight, b) (put-both whole rest)
+
+-- a number in k bits, of which the last eight are a byte
+module _ (v k : ℕ) (byte : 8 ≤ k) (small : v < 2 ^ k) where
+  upper : k - 8 + 8 ≡ k
+  upper = omega arith
+
+  pub upper-small : v / 2 ^ 8 < 2 ^ (k - 8)
+  upper-small = shr-lt (k - 8) 8 (rw upper small)
+
+  module _ {start : ℕ} {p q : Pen} {o o' : List ℕ} (u : Put (bitsOf (k - 8) (v / 2 ^ 8)) start p q o o') where
+    pub number-fits : PenFits k p → PenFits 8 q
+    number-fits f = let e : length (bitsOf (k - 8) (v / 2 ^ 8)) + 8 ≡ k = omega (arith, length-bits (k - 8) (v / 2 ^ 8)) in u .fits 8 (rw e f)
+
+    pub put-halves : {r : Pen} {o'' : List ℕ} → Put (bitsOf 8 (v % 256)) start q r o' o'' → Put (bitsOf k v) start p r o o''
+    put-halves w = let b : bitsOf k v ≡ bitsOf (k - 8) (v / 2 ^ 8) ++ bitsOf 8 (v % 256) = rw upper at (bits-split (k - 8) 8 v (rw upper small)) in rw b (put-both u w)
 
 -- what a step writes
 module _ {s : Output} where
@@ -214,8 +232,8 @@ module _ {s : Output} where
   unfolding codes symbolsFor
   put-nothing e start pen out = rw e (put-none start pen out)
 
-  pub put-new : (x : Dart) → s ≡ New x → {start : ℕ} {p r : Pen} {o o' : List ℕ} → Put (eqb 0 1 ∷ []) start p r o o' → Put (codes (symbolsFor s)) start p r o o'
-  unfolding codes code symbolsFor
+  pub put-new : (x : Dart) → s ≡ New x → {start : ℕ} {p r : Pen} {o o' : List ℕ} → Put (bitsOf 1 0) start p r o o' → Put (codes (symbolsFor s)) start p r o o'
+  unfolding codes code symbolsFor bitsOf
   put-new x e u = rw e u
 
   pub put-border : s ≡ Border → {start : ℕ} {p r : Pen} {o o' : List ℕ} → Put (bitsOf 2 2) start p r o o' → Put (codes (symbolsFor s)) start p r o o'
@@ -226,9 +244,9 @@ module _ {s : Output} where
     pub index-small : IndexFits s → w .0 < 4096
     index-small h = rw e at h
 
-    pub put-index : {start : ℕ} {p q r : Pen} {o o' o'' : List ℕ} → Put (bitsOf 2 3) start p q o o' → Put (bitsOf 12 (w .0)) start q r o' o'' → Put (codes (symbolsFor s)) start p r o o''
+    pub put-index : IndexFits s → {start : ℕ} {p r : Pen} {o o' : List ℕ} → Put (bitsOf 14 (3 * 4096 + w .0)) start p r o o' → Put (codes (symbolsFor s)) start p r o o'
     unfolding codes code symbolsFor bitsOf
-    put-index u v = rw (e, append-nil) (put-both u v)
+    put-index h u = rw (e, append-nil) (rw (← bits-join 2 12 3 (w .0) (omega arith) (index-small h)) at u)
 
 -- a pen at the start of a stream
 pub holds-start : (start : ℕ) (out : List ℕ) → Holds [] start out (record { at = 0; bits = 0; value = 0 }) out

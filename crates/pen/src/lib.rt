@@ -2,9 +2,8 @@
 use walk::Output;
 ghost use mathlib.Core.Path.{_≡_};
 ghost use mathlib.Core.Bool.{Bool};
-ghost use mathlib.Core.List.{List, [], _∷_};
+ghost use mathlib.Core.List.{List};
 ghost use Prim.Native.Nat.{ℕ, _≤_, _<_, _^_};
-ghost use lib.Dec.{eqb};
 ghost use Rattle.rules.specs.Stream.{bitsOf, codes, filled};
 ghost use Rattle.walk.proofs.Laws.{symbolsFor};
 ghost use Rattle.pen.specs.Pens.{stored, penned, PenFits, Holds, Put, IndexFits};
@@ -29,40 +28,41 @@ pub fn store(start: usize, at: usize, byte: u8, out: &mut [u8])
     }
 }
 
-// One bit more.
-pub fn put_bit(pen: Pen, bit: u16, start: usize, out: &mut [u8]) -> Pen
-    requires { ⌜ PenFits 1 pen × (bit < 2) ⌝ }
-    ensures { λ r. ⌜ Put (eqb bit 1 ∷ []) start pen r (now (out .entry)) (now (out .exit)) ⌝ }
+// A number in k bits, at most a byte of them, so that no more than one byte becomes whole.
+pub fn put_few(pen: Pen, v: u16, k: u16, start: usize, out: &mut [u8]) -> Pen
+    requires { ⌜ PenFits k pen × (k ≤ 8) × (v < 2 ^ k) ⌝ }
+    ensures { λ r. ⌜ Put (bitsOf k v) start pen r (now (out .entry)) (now (out .exit)) ⌝ }
 {
     let at = pen.at;
-    let value = 2 * pen.value + bit;
-    if pen.bits < 7 {
+    let bits = pen.bits + k;
+    if bits < 8 {
         return Pen {
             at,
-            bits: pen.bits + 1,
-            value,
+            bits,
+            value: (pen.value << k) + v,
         };
     }
-    store(start, at, value as u8, out);
+    let left = bits - 8;
+    store(
+        start,
+        at,
+        ((pen.value << (8 - pen.bits)) + (v >> left)) as u8,
+        out,
+    );
     Pen {
         at: at + 1,
-        bits: 0,
-        value: 0,
+        bits: left,
+        value: v % (1u16 << left),
     }
 }
 
-// A number in k bits.
+// A number in k bits, more than a byte of them.
 pub fn put_number(pen: Pen, v: u16, k: u16, start: usize, out: &mut [u8]) -> Pen
-    requires { ⌜ PenFits k pen × (k ≤ 12) × (v < 2 ^ k) ⌝ }
+    requires { ⌜ PenFits k pen × (8 ≤ k) × (k ≤ 16) × (v < 2 ^ k) ⌝ }
     ensures { λ r. ⌜ Put (bitsOf k v) start pen r (now (out .entry)) (now (out .exit)) ⌝ }
 {
-    let mut p = pen;
-    let mut left = k;
-    while 0 < left {
-        left -= 1;
-        p = put_bit(p, (v >> left) % 2, start, out);
-    }
-    p
+    let p = put_few(pen, v >> 8, k - 8, start, out);
+    put_few(p, v % 256, 8, start, out)
 }
 
 // What a step writes: N is 0, B is 10, w is 11 and twelve bits.
@@ -72,12 +72,9 @@ pub fn put_symbol(pen: Pen, s: Output, start: usize, out: &mut [u8]) -> Pen
 {
     match s {
         Output::Nothing => pen,
-        Output::New(_) => put_bit(pen, 0, start, out),
-        Output::Border => put_number(pen, 2, 2, start, out),
-        Output::Index(e) => {
-            let p = put_number(pen, 3, 2, start, out);
-            put_number(p, e.0, 12, start, out)
-        }
+        Output::New(_) => put_few(pen, 0, 1, start, out),
+        Output::Border => put_few(pen, 2, 2, start, out),
+        Output::Index(e) => put_number(pen, 3 * 4096 + e.0, 14, start, out),
     }
 }
 

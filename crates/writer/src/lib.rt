@@ -105,7 +105,7 @@ pub fn emit(
         bits: 0,
         value: 0,
     };
-    let first = pen::put_number(none, dim as u16, 4, start, out);
+    let first = pen::put_few(none, dim as u16, 4, start, out);
     let second = pen::put_number(first, (darts - 1) as u16, 12, start, out);
     let last = put_symbols(tables, work, dim, darts, second, start, out);
     pen::fill(last, start, out);

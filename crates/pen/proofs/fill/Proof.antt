@@ -1,7 +1,9 @@
 -- `pen::fill` meets its contract: zero bits make the last byte whole, or it is whole. Assumes nothing.
+use Prim.Native.Nat.{_-_}
 use native.Mathlib.Omega.{arith}
+use lib.Pow.{pow-pos}
 use borrow.Author.Needs.{needs}
-use Rattle.pen.proofs.Laws.{fill-more, fill-none, shifted-small}
+use Rattle.pen.proofs.Laws.{fill-more, fill-none, byte-small}
 use Rattle.pen.proofs.fill.Statement.{statement}
 use Rattle.pen.proofs.fill.Tie as tie
 
@@ -12,7 +14,9 @@ shl-store : tie.Need-shl-store
 shl-store c = search needs
 
 cast-store : tie.Need-cast-store
-cast-store c = omega (arith, shifted-small (c .before .before .before .before .before .pre))
+cast-store c =
+    let s = c .before .before .before .before .before in
+    omega (arith, byte-small (s .pre) (8 - s .args .pen .bits) 0 (omega arith) (pow-pos (8 - s .args .pen .bits)))
 
 store-requires : tie.Need-store-requires
 store-requires c κs = search needs

@@ -1,47 +1,28 @@
--- `pen::put_number` meets its contract: all bits but the last `left` were put. Assumes nothing.
-use Prim.Native.Nat.{_-_, _/_, _^_, _≤_}
-use mathlib.Core.Path.{_≡_, refl}
+-- `pen::put_number` meets its contract: the bits before the last eight, then those. Assumes nothing.
 use native.Mathlib.Omega.{arith}
-use lib.ListN.{length}
 use borrow.Author.Needs.{needs}
-use Rattle.rules.specs.Stream.{bitsOf}
-use Rattle.pen.specs.Pens.{Put}
-use Rattle.pen.proofs.Laws.{number-start, number-fits, number-next, number-end}
+use Rattle.pen.proofs.Laws.{upper-small, number-fits, put-halves}
 use Rattle.pen.proofs.put_number.Statement.{statement}
 use Rattle.pen.proofs.put_number.Tie as tie
 
-abbrev Inv-loop : tie.InvT-loop
-Inv-loop v k start out₀ p₀ left₀ out p left = (left ≤ k) × (length out ≡ length out₀) × Put (bitsOf (k - left) (v / 2 ^ left)) start p₀ p out₀ out
+sub-put-few : tie.Need-sub-put-few
+sub-put-few c = search needs
 
-abbrev μ-loop : tie.MeasureT-loop
-μ-loop v k start out₀ p₀ left₀ out p left = left
+put-few-requires : tie.Need-put-few-requires
+put-few-requires c κs = let s = c .before .before in (search needs, omega arith, upper-small _ _ (s .pre .1) (s .pre .3))
 
-loop-holds : tie.Need-loop-holds Inv-loop μ-loop
-loop-holds c = (omega arith, refl, number-start _ _ _ _ _)
+put-few-requires-2 : tie.Need-put-few-requires-2
+put-few-requires-2 c κs =
+    let s = c .before .before .before .before .before .before in
+    (number-fits _ _ (s .pre .1) (s .pre .3) (c .before .before .before .put-few .ensures) (s .pre .0), omega arith, omega arith)
 
-sub-left : tie.Need-sub-left Inv-loop μ-loop
-sub-left c = omega arith
-
-shr-put-bit : tie.Need-shr-put-bit Inv-loop μ-loop
-shr-put-bit c = omega arith
-
-put-bit-requires : tie.Need-put-bit-requires Inv-loop μ-loop
-put-bit-requires c κs = (number-fits _ _ _ (c .before .before .loop .inv .2) (c .before .before .before .before .pre .0) (omega arith) (omega arith), omega arith)
-
-loop-less : tie.Need-loop-less Inv-loop μ-loop
-loop-less c = omega arith
-
-loop-again : tie.Need-loop-again Inv-loop μ-loop
-loop-again c =
-    let s = c .before .before .before .before .before .before .before in
-    let l = c .before .before .before .before .before .loop in
-    (omega arith, search needs, number-next _ _ _ (l .inv .2) (omega arith) (omega arith) (s .pre .2) (c .before .before .put-bit .ensures))
-
-same-length : tie.Need-same-length Inv-loop μ-loop
+same-length : tie.Need-same-length
 same-length c = search needs
 
-returns : tie.Need-returns Inv-loop μ-loop
-returns c = number-end _ _ _ (c .before .loop .inv .2) (omega arith)
+returns : tie.Need-returns
+returns c =
+    let s = c .before .before .before .before .before .before .before .before .before in
+    put-halves _ _ (s .pre .1) (s .pre .3) (c .before .before .before .before .before .before .put-few .ensures) (c .before .before .put-few2 .ensures)
 
 pub put-number-spec : {M : Type 1} → statement M
-put-number-spec = tie.close (tie.spec Inv-loop μ-loop loop-holds sub-left shr-put-bit put-bit-requires loop-less loop-again same-length returns)
+put-number-spec = tie.close (tie.spec sub-put-few put-few-requires put-few-requires-2 same-length returns)
