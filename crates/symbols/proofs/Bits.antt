@@ -1,19 +1,20 @@
--- Laws of bits one by one: of a number, of a byte, of a page; a number from its bits; bits that begin a symbol. Rests on the laws of codes.
+-- Laws of bits: of a number, of a byte, of a page, one by one and fourteen at once; a number from its bits; bits that begin a symbol. Rests on the laws of codes.
 use Prim.Native.Nat.{ℕ, zero, suc, _+_, _*_, _-_, _/_, _%_, _≤_, _<_, _^_}
 use mathlib.Core.Path.{_≡_, refl, ap, sym, _∙_}
 use mathlib.Core.Bool.{Bool, true, false, cond}
-use mathlib.Core.List.{List, [], _∷_, _++_}
+use mathlib.Core.List.{List, [], _∷_, _++_, append-assoc}
 use native.Mathlib.Omega.{arith}
-use native.Mathlib.Nat.{pow-suc, pow-le-pow-right, div-eq-of-lt, div-eq-of-lt-le, add-mul-div-left}
+use native.Mathlib.Nat.{pow-suc, pow-le-pow-right, mod-lt, div-eq-of-lt, div-eq-of-lt-le, add-mul-div-left}
+use native.Mathlib.Numerals.{add-one}
 use lib.ListN.{length, getD, take, drop, length-drop}
-use lib.Seq.{drop-at, drop-append-le, drop-drop, take-length, drop-cons, take-add, length-take-le}
+use lib.Seq.{drop-at, drop-nil, drop-append-le, drop-drop, take-length, drop-cons, take-add, length-take-le}
 use lib.Dec.{eqb, ltb, leb}
 use borrow.Author.Tests.{lt-ltb, leb-true, leb-false, le-leb, lt-leb, le-ltb}
-use lib.Pow.{pow-add, pow-pos, shl-exact}
+use lib.Pow.{pow-add, pow-pos, shl-exact, field, mod-mod-pow}
 use Rattle.rules.specs.Walk.{Symbol}
 use Rattle.rules.specs.Stream.{bitsOf, value, unpack, Taken, takeIndex}
 use Rattle.rules.specs.Session.{begins}
-use Rattle.rules.proofs.Codes.{value-more, length-bits, value-lt}
+use Rattle.rules.proofs.Codes.{value-more, length-bits, value-lt, bits-join, bits-split}
 
 -- the bits of a number, first bit first
 pub bits-one : (k x : ℕ) → 2 ^ k ≤ x → bitsOf (suc k) x ≡ true ∷ bitsOf k (x - 2 ^ k)
@@ -84,14 +85,60 @@ module _ (page : List ℕ) (at : ℕ) (within : at < length page) where
   page-byte = rw (drop-cons page at 0 within)
 
   pub page-bit : (b : ℕ) → b < 8 → getD page at 0 < 256
-      → drop b (unpack (drop at page)) ≡ eqb (getD page at 0 / 2 ^ (7 - b) % 2) 1 ∷ drop (suc b) (unpack (drop at page))
+      → drop b (unpack (drop at page)) ≡ eqb (getD page at 0 / 2 ^ (7 - b) % 2) 1 ∷ drop (b + 1) (unpack (drop at page))
   page-bit b h hx =
       let x = getD page at 0 in
       let l = length-bits 8 x in
-      rw (page-byte, drop-append-le b (bitsOf 8 x) (unpack (drop (suc at) page)) (omega arith), drop-append-le (suc b) (bitsOf 8 x) (unpack (drop (suc at) page)) (omega arith), bit-at b (7 - b) 7 x (omega arith) hx)
+      rw (add-one b, page-byte, drop-append-le b (bitsOf 8 x) (unpack (drop (suc at) page)) (omega arith), drop-append-le (suc b) (bitsOf 8 x) (unpack (drop (suc at) page)) (omega arith), bit-at b (7 - b) 7 x (omega arith) hx)
 
-  pub page-over : drop 8 (unpack (drop at page)) ≡ unpack (drop (suc at) page)
-  page-over = rw page-byte (drop-at (bitsOf 8 (getD page at 0)) (unpack (drop (suc at) page)) 8 (length-bits 8 (getD page at 0)))
+-- whole bytes dropped
+unpack-drop : (k : ℕ) (xs : List ℕ) → drop (8 * k) (unpack xs) ≡ unpack (drop k xs)
+unfolding unpack
+unpack-drop zero xs = refl
+unpack-drop (suc k) [] = drop-nil (8 * suc k)
+unpack-drop (suc k) (x ∷ xs) =
+    let e : 8 * suc k ≡ 8 + 8 * k = omega arith in
+    rw (e, ← drop-drop (8 * k) 8 (bitsOf 8 x ++ unpack xs), drop-at (bitsOf 8 x) (unpack xs) 8 (length-bits 8 x)) (unpack-drop k xs)
+
+-- the page's bits from a byte and so many bits after it on
+pub page-moved : (page : List ℕ) (at to : ℕ) → drop (to % 8) (unpack (drop (at + to / 8) page)) ≡ drop to (unpack (drop at page))
+page-moved page at to =
+    let e : 8 * (to / 8) + to % 8 ≡ to = omega arith in
+    rw (← drop-drop (to / 8) at page, ← unpack-drop (to / 8) (drop at page), drop-drop (to % 8) (8 * (to / 8)) (unpack (drop at page)), e)
+
+-- j bits of a number, after i others and before k others, by a shift
+bits-field : (i j k x : ℕ) → x < 2 ^ (i + (j + k)) → drop i (bitsOf (i + (j + k)) x) ≡ bitsOf j (x / 2 ^ k % 2 ^ j) ++ bitsOf k (x % 2 ^ k)
+bits-field i j k x h =
+    rw (bits-split i (j + k) x h, drop-at (bitsOf i (x / 2 ^ (j + k))) (bitsOf (j + k) (x % 2 ^ (j + k))) i (length-bits i (x / 2 ^ (j + k))))
+    (rw (field x j k, mod-mod-pow x j k) at (bits-split j k (x % 2 ^ (j + k)) (mod-lt x (pow-pos (j + k)))))
+
+-- two numbers' bits, and bits after those
+pub bits-before : (j k a b : ℕ) (rest : List Bool) → a < 2 ^ j → b < 2 ^ k → bitsOf j a ++ (bitsOf k b ++ rest) ≡ bitsOf (j + k) (a * 2 ^ k + b) ++ rest
+bits-before j k a b rest ha hb = sym (append-assoc (bitsOf j a) (bitsOf k b) rest) ∙ rw (bits-join j k a b ha hb)
+
+-- a byte of a page and the two after it as one number, and of its bits fourteen from bit b on
+module _ (page : List ℕ) (at : ℕ) (within : at + 2 < length page) (hx : getD page at 0 < 256) (hy : getD page (at + 1) 0 < 256) (hz : getD page (at + 2) 0 < 256) where
+  page-three : unpack (drop at page) ≡ bitsOf 24 ((getD page at 0 * 256 + getD page (at + 1) 0) * 256 + getD page (at + 2) 0) ++ unpack (drop (at + 3) page)
+  page-three =
+      let x = getD page at 0 in
+      let y = getD page (at + 1) 0 in
+      let z = getD page (at + 2) 0 in
+      let rest = unpack (drop (at + 3) page) in
+      let e : suc (at + 1) ≡ at + 2 = omega arith in
+      let f : suc (at + 2) ≡ at + 3 = omega arith in
+      let q : unpack (drop (at + 1) page) ≡ bitsOf 8 y ++ unpack (drop (at + 2) page) = rw e at (page-byte page (at + 1) (omega arith)) in
+      let r : unpack (drop (at + 2) page) ≡ bitsOf 8 z ++ rest = rw f at (page-byte page (at + 2) (omega arith)) in
+      rw (page-byte page at (omega arith), ← add-one at, q, r, bits-before 8 8 x y (bitsOf 8 z ++ rest) hx hy, bits-before 16 8 (x * 256 + y) z rest (omega arith) hz)
+
+  pub page-head : (b : ℕ) → b < 8
+      → (rest : List Bool) × (drop b (unpack (drop at page)) ≡ bitsOf 14 (((getD page at 0 * 256 + getD page (at + 1) 0) * 256 + getD page (at + 2) 0) / 2 ^ (10 - b) % 16384) ++ rest)
+  page-head b h =
+      let three = (getD page at 0 * 256 + getD page (at + 1) 0) * 256 + getD page (at + 2) 0 in
+      let low = bitsOf (10 - b) (three % 2 ^ (10 - b)) in
+      let after = unpack (drop (at + 3) page) in
+      let n : b + (14 + (10 - b)) ≡ 24 = omega arith in
+      let f : drop b (bitsOf 24 three) ≡ bitsOf 14 (three / 2 ^ (10 - b) % 16384) ++ low = rw n at (bits-field b 14 (10 - b) three (rw n (omega arith))) in
+      (low ++ after, rw (page-three, drop-append-le b (bitsOf 24 three) after (omega (arith, length-bits 24 three)), f) (append-assoc (bitsOf 14 (three / 2 ^ (10 - b) % 16384)) low after))
 
 -- i bits of bs were taken, v is the number that they write, and l are left
 pub record Taking (bs l : List Bool) (i v : ℕ) : Type 0 where

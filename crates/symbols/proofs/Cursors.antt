@@ -1,25 +1,27 @@
--- Laws of cursors: the page's bits at hand, one of them taken, and what a symbol leaves. Rests on the laws of bits.
+-- Laws of cursors: the page's bits at hand, one of them taken, what a symbol leaves, and a symbol by its first fourteen bits. Rests on the laws of bits.
 use Prim.Native.Nat.{ℕ, _+_, _*_, _-_, _/_, _%_, _≤_, _<_, _^_}
-use mathlib.Core.Path.{_≡_, sym, _∙_}
+use mathlib.Core.Path.{_≡_, refl, sym, _∙_}
 use mathlib.Core.Logic.{_≢_}
-use mathlib.Core.List.{List, [], _∷_}
+use mathlib.Core.List.{List, [], _∷_, _++_}
 use mathlib.Core.Bool.{Bool, true, false, cond}
 use native.Mathlib.Omega.{arith}
 use lib.ListN.{length, getD, drop, drop-of-length-le}
-use lib.Seq.{drop-nil}
+use lib.Seq.{drop-nil, drop-drop, drop-append-seam}
 use borrow.Author.Tests.{eq-eqb, ne-eqb}
 use Rattle.rules.specs.declared.WalkNo.{WalkNo}
 use Rattle.rules.specs.Session.{begins}
-use Rattle.rules.specs.Stream.{bitsOf, unpack, takeSymbol}
-use Rattle.rules.proofs.Codes.{length-bits}
+use Rattle.rules.specs.Walk.{Symbol}
+use Rattle.rules.specs.Stream as stream
+use Rattle.rules.specs.Stream.{bitsOf, unpack, code, takeSymbol}
+use Rattle.rules.proofs.Codes.{length-bits, taken-code}
 use Rattle.symbols.specs.declared.Cursor.{Cursor}
 use Rattle.symbols.specs.declared.Bit.{Bit}
 use Rattle.symbols.specs.declared.Bit.the-variants.{Out, Zero, One}
 use Rattle.symbols.specs.declared.Taken.the-variants as Taken
 use Rattle.symbols.specs.declared.Number.{Number}
 use Rattle.symbols.specs.declared.Number.the-variants as Number
-use Rattle.symbols.specs.Cursors.{atHand, CursorFits, PastPageBit, bitsWith, Past, PastBit, BitTaken, toldNumber, PastNumber, NumberTaken, told, PastSymbol, SymbolTaken}
-use Rattle.symbols.proofs.Bits.{page-bit, Taking, taking-start, taking-more, begun-new, begun-border}
+use Rattle.symbols.specs.Cursors.{atHand, CursorFits, PastPage, bitsWith, Past, PastBit, BitTaken, toldNumber, PastNumber, NumberTaken, told, PastSymbol, SymbolTaken}
+use Rattle.symbols.proofs.Bits.{page-bit, bits-before, page-head, Taking, taking-start, taking-more, begun-new, begun-border}
 
 -- no bit waits: the page's bits are at hand
 module _ (c : Cursor) (page : List ℕ) (none : c .waiting ≡ 0) where
@@ -31,8 +33,13 @@ module _ (c : Cursor) (page : List ℕ) (none : c .waiting ≡ 0) where
   unfolding bitsWith PastBit unpack
   page-out h = record { tells = sym (page-hand ∙ rw (drop-of-length-le page h) (drop-nil (c .bit))); past = tt }
 
+  -- the first fourteen bits, out of three bytes
+  pub hand-head : CursorFits c page → c .at + 2 < length page → getD page (c .at) 0 < 256 → getD page (c .at + 1) 0 < 256 → getD page (c .at + 2) 0 < 256
+      → (rest : List Bool) × (atHand c page ≡ bitsOf 14 (((getD page (c .at) 0 * 256 + getD page (c .at + 1) 0) * 256 + getD page (c .at + 2) 0) / 2 ^ (10 - c .bit) % 16384) ++ rest)
+  hand-head f within hx hy hz = let (rest, e) = page-head page (c .at) within hx hy hz (c .bit) (f .inByte) in (rest, page-hand ∙ e)
+
   -- the bit at the cursor is taken, and d is past it
-  module _ (d : Cursor) (f : CursorFits c page) (within : c .at < length page) (byte : getD page (c .at) 0 < 256) (p : PastPageBit c d page) where
+  module _ (d : Cursor) (f : CursorFits c page) (within : c .at < length page) (byte : getD page (c .at) 0 < 256) (p : PastPage 1 c d page) where
     pub page-one : getD page (c .at) 0 / 2 ^ (7 - c .bit) % 2 ≡ 1 → BitTaken (One d) c page
     unfolding bitsWith PastBit
     page-one e = record {
@@ -134,3 +141,39 @@ module _ {c : Cursor} {page : List ℕ} {r : Bit} (t : BitTaken r c page) where
             tells = rw both-ones (rw h at (v .tells));
             past = record { fits = p .fits; used = λ g. omega (arith, p .gone, bit-one t d q .1 .gone, bit-one u e z .1 .gone) };
           }
+
+-- the symbol by its code, where no bit waits: d is past the code's bits
+module _ (c d : Cursor) (page : List ℕ) (none : c .waiting ≡ 0) where
+  code-past : (s : Symbol) (rest : List Bool) → takeSymbol (code s ++ rest) ≡ stream.Taken.symbol s rest → atHand c page ≡ code s ++ rest → PastPage (length (code s)) c d page
+      → stream.Taken.symbol s (atHand d page) ≡ takeSymbol (atHand c page)
+  code-past s rest t e p =
+      let q : atHand d page ≡ rest = p .left ∙ (sym (drop-drop (length (code s)) (c .bit) (unpack (drop (c .at) page))) ∙ rw (← page-hand c page none, e) (drop-append-seam (code s) rest)) in
+      rw (e, q) (sym t)
+
+  -- by the first fourteen bits
+  module _ (head : ℕ) (rest : List Bool) (e : atHand c page ≡ bitsOf 14 head ++ rest) where
+    begun : (j k a b : ℕ) → a < 2 ^ j → b < 2 ^ k → j + k ≡ 14 → a * 2 ^ k + b ≡ head → atHand c page ≡ bitsOf j a ++ (bitsOf k b ++ rest)
+    begun j k a b ha hb n q = rw (bits-before j k a b rest ha hb, n, q) e
+
+    pub head-new : head < 8192 → PastPage 1 c d page → SymbolTaken (Taken.New d) c page
+    unfolding told PastSymbol takeSymbol code bitsOf
+    head-new h p = record {
+      tells = code-past Symbol.new (bitsOf 13 head ++ rest) refl (begun 1 13 0 head (omega arith) h refl (omega arith)) p;
+      past = record { fits = p .fits; used = λ g. p .none };
+    }
+
+    pub head-border : 8192 ≤ head → head < 12288 → PastPage 2 c d page → SymbolTaken (Taken.Border d) c page
+    unfolding told PastSymbol takeSymbol code bitsOf
+    head-border l h p = record {
+      tells = code-past Symbol.border (bitsOf 12 (head - 8192) ++ rest) refl (begun 2 12 2 (head - 8192) (omega arith) (omega arith) refl (omega arith)) p;
+      past = record { fits = p .fits; used = λ g. p .none };
+    }
+
+    pub head-index : 12288 ≤ head → head < 16384 → PastPage 14 c d page → SymbolTaken (Taken.Index (record { 0 = head - 12288 }) d) c page
+    unfolding told PastSymbol code bitsOf
+    head-index l h p =
+        let w = head - 12288 in
+        record {
+          tells = code-past (Symbol.index w) rest (taken-code (Symbol.index w) rest (record { fits = λ v q. let z : w ≡ v = cc in omega arith })) (begun 2 12 3 w (omega arith) (omega arith) refl (omega arith)) (rw (length-bits 12 w) p);
+          past = record { fits = p .fits; used = λ g. p .none };
+        }

@@ -1,5 +1,5 @@
 -- What a cursor stands for: the bits at hand, and what taking a bit, a number or a symbol from them tells.
-use Prim.Native.Nat.{ℕ, suc, _-_, _^_, _≤_, _<_}
+use Prim.Native.Nat.{ℕ, _+_, _-_, _^_, _≤_, _<_}
 use mathlib.Core.Path.{_≡_}
 use mathlib.Core.Bool.{Bool, true, false}
 use mathlib.Core.List.{List, [], _∷_, _++_}
@@ -28,11 +28,11 @@ pub record CursorFits (c : Cursor) (page : List ℕ) : Type 0 where
   pub within : c .at ≤ length page
   pub inByte : c .bit < 8
 
--- the cursor d past the page's next bit from c fits, no bit waits, and the page's bits after that one are at hand
-pub record PastPageBit (c d : Cursor) (page : List ℕ) : Type 0 where
+-- the cursor d past k bits of the page from c fits, no bit waits, and the page's bits after those are at hand
+pub record PastPage (k : ℕ) (c d : Cursor) (page : List ℕ) : Type 0 where
   pub fits : CursorFits d page
   pub none : d .waiting ≡ 0
-  pub left : atHand d page ≡ drop (suc (c .bit)) (unpack (drop (c .at) page))
+  pub left : atHand d page ≡ drop (c .bit + k) (unpack (drop (c .at) page))
 
 -- the bits that a bit was taken from
 unfoldable pub bitsWith : Bit → List ℕ → List Bool

@@ -1,18 +1,18 @@
-// Bits and symbols: a cursor over the bits that wait and a page's bits, and taking one symbol. Bits are looked at one by one.
+// Bits and symbols: a cursor over the bits that wait and a page's bits, and taking one symbol: from three bytes at once, or bit by bit where bits wait or the page ends.
 use rules::WalkNo;
 ghost use mathlib.Core.Path.{_≡_};
 ghost use mathlib.Core.List.{List};
-ghost use Prim.Native.Nat.{ℕ, _+_, _≤_, _<_, _^_};
+ghost use Prim.Native.Nat.{ℕ, _+_, _/_, _≤_, _<_, _^_};
 ghost use lib.ListN.{length};
 ghost use Rattle.rules.specs.Stream.{value};
-ghost use Rattle.symbols.specs.Cursors.{atHand, CursorFits, PastPageBit, BitTaken, NumberTaken, SymbolTaken};
+ghost use Rattle.symbols.specs.Cursors.{atHand, CursorFits, PastPage, BitTaken, NumberTaken, SymbolTaken};
 
 // Where taking bits stands: bits that wait from before the page, then the page from a byte and a bit of it on.
 pub struct Cursor {
     pub waiting: u16,
     pub value: u16,
     pub at: usize,
-    pub bit: u16,
+    pub bit: u32,
 }
 
 // The next bit, with the cursor past it, or that bits ran out.
@@ -43,27 +43,17 @@ pub struct Waiting {
 }
 
 impl Cursor {
-    // The cursor past the next bit of the page.
-    pub fn past_bit(self) -> Cursor
-        requires { ⌜ self .at + 1 < 2 ^ 64 ⌝ }
-        ensures { λ r. ⌜ ((page : List ℕ) → CursorFits self page → self .at < length page → PastPageBit self r page) ⌝ }
+    // The cursor past so many bits more of the page.
+    pub fn moved(self, bits: u32) -> Cursor
+        requires { ⌜ (self .bit + bits < 2 ^ 32) × (self .at + (self .bit + bits) / 8 < 2 ^ 64) ⌝ }
+        ensures { λ r. ⌜ ((page : List ℕ) → self .at + (self .bit + bits) / 8 ≤ length page → PastPage bits self r page) ⌝ }
     {
-        let at = self.at;
-        let bit = self.bit;
-        if bit < 7 {
-            Cursor {
-                waiting: 0,
-                value: 0,
-                at,
-                bit: bit + 1,
-            }
-        } else {
-            Cursor {
-                waiting: 0,
-                value: 0,
-                at: at + 1,
-                bit: 0,
-            }
+        let to = self.bit + bits;
+        Cursor {
+            waiting: 0,
+            value: 0,
+            at: self.at + (to / 8) as usize,
+            bit: to % 8,
         }
     }
 
@@ -109,9 +99,9 @@ impl Cursor {
         let shift = 7 - self.bit;
         let byte = page[at];
         if (byte >> shift) % 2 == 1 {
-            Bit::One(self.past_bit())
+            Bit::One(self.moved(1))
         } else {
-            Bit::Zero(self.past_bit())
+            Bit::Zero(self.moved(1))
         }
     }
 
@@ -142,8 +132,8 @@ impl Cursor {
         Number::Is(WalkNo(v), c)
     }
 
-    // The symbol that the bits begin with.
-    pub fn take_symbol(self, page: &[u8]) -> Taken
+    // The symbol that the bits begin with, bit by bit.
+    pub fn next_symbol(self, page: &[u8]) -> Taken
         requires { ⌜ CursorFits self (now page) ⌝ }
         ensures { λ r. ⌜ SymbolTaken r self (now (page .entry)) ⌝ }
     {
@@ -171,6 +161,36 @@ impl Cursor {
             Number::Short => Taken::Short,
             Number::Is(w, e) => Taken::Index(w, e),
         }
+    }
+
+    // The symbol that the page's bits begin with: fourteen bits from the cursor on are within three bytes.
+    pub fn whole_symbol(self, page: &[u8]) -> Taken
+        requires { ⌜ CursorFits self (now page) × (self .waiting ≡ 0) × (self .at + 2 < length (now page)) ⌝ }
+        ensures { λ r. ⌜ SymbolTaken r self (now (page .entry)) ⌝ }
+    {
+        let at = self.at;
+        let three = (page[at] as u32 * 256 + page[at + 1] as u32) * 256 + page[at + 2] as u32;
+        let head = (three >> (10 - self.bit)) % 16384;
+        if head < 8192 {
+            return Taken::New(self.moved(1));
+        }
+        if head < 12288 {
+            return Taken::Border(self.moved(2));
+        }
+        Taken::Index(WalkNo((head - 12288) as u16), self.moved(14))
+    }
+
+    // The symbol that the bits begin with.
+    pub fn take_symbol(self, page: &[u8]) -> Taken
+        requires { ⌜ CursorFits self (now page) ⌝ }
+        ensures { λ r. ⌜ SymbolTaken r self (now (page .entry)) ⌝ }
+    {
+        if self.waiting == 0 {
+            if self.at + 2 < page.len() {
+                return self.whole_symbol(page);
+            }
+        }
+        self.next_symbol(page)
     }
 
     // All bits that are left, of which there are at most thirteen.

@@ -26,27 +26,27 @@ cast-if3 c = search needs
 shr-if3 : tie.Need-shr-if3
 shr-if3 c = search needs
 
-past-bit-requires : tie.Need-past-bit-requires
-past-bit-requires c κs = search needs
+moved-requires : tie.Need-moved-requires
+moved-requires c κs = search needs
 
-past-bit-requires-2 : tie.Need-past-bit-requires-2
-past-bit-requires-2 c κs = search needs
+moved-requires-2 : tie.Need-moved-requires-2
+moved-requires-2 c κs = search needs
 
 returns-3 : tie.Need-returns-3
 returns-3 c =
     let s = c .before .before .before .before .before .before .before .before in
     let x = c .before .before .shared-slice-known2 .given (s .args .self .at) in
     let h = c .before .before .before .before .if2 .left in
-    page-one (s .args .self) _ (omega arith) _ (s .pre) h (x .fits) (c .past-bit .ensures _ (s .pre) h) (c .before .if3 .taken)
+    page-one (s .args .self) _ (omega arith) _ (s .pre) h (x .fits) (c .moved .ensures _ (omega arith)) (c .before .if3 .taken)
 
 returns-4 : tie.Need-returns-4
 returns-4 c =
     let s = c .before .before .before .before .before .before .before .before in
     let x = c .before .before .shared-slice-known2 .given (s .args .self .at) in
     let h = c .before .before .before .before .if2 .left in
-    page-zero (s .args .self) _ (omega arith) _ (s .pre) h (x .fits) (c .past-bit2 .ensures _ (s .pre) h) (c .before .if3 .left)
+    page-zero (s .args .self) _ (omega arith) _ (s .pre) h (x .fits) (c .moved2 .ensures _ (omega arith)) (c .before .if3 .left)
 
 pub next-bit-spec : {M : Type 1} → statement M
 next-bit-spec =
     tie.close
-    (tie.spec waiting-bit-requires returns returns-2 sub-shift shared-slice-read-byte cast-if3 shr-if3 past-bit-requires past-bit-requires-2 returns-3 returns-4)
+    (tie.spec waiting-bit-requires returns returns-2 sub-shift shared-slice-read-byte cast-if3 shr-if3 moved-requires moved-requires-2 returns-3 returns-4)
