@@ -1,6 +1,5 @@
 -- `symbols::Cursor::take_symbol` meets its contract: both ways to take a symbol meet it. Assumes nothing.
 use native.Mathlib.Omega.{arith}
-use borrow.Author.Needs.{needs}
 use Rattle.symbols.proofs.Cursor.take_symbol.Statement.{statement}
 use Rattle.symbols.proofs.Cursor.take_symbol.Tie as tie
 
@@ -8,7 +7,7 @@ add-if2 : tie.Need-add-if2
 add-if2 c = omega arith
 
 whole-symbol-requires : tie.Need-whole-symbol-requires
-whole-symbol-requires c κs = search needs
+whole-symbol-requires c κs = (c .before .before .before .before .before .pre, omega arith, omega arith)
 
 returns : tie.Need-returns
 returns c = c .whole-symbol .ensures
