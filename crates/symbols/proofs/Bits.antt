@@ -4,13 +4,13 @@ use mathlib.Core.Path.{_≡_, refl, ap, sym, _∙_}
 use mathlib.Core.Bool.{Bool, true, false, cond}
 use mathlib.Core.List.{List, [], _∷_, _++_, append-assoc}
 use native.Mathlib.Omega.{arith}
-use native.Mathlib.Nat.{pow-suc, pow-le-pow-right, mod-lt, div-eq-of-lt, div-eq-of-lt-le, add-mul-div-left}
+use native.Mathlib.Nat.{pow-suc, pow-le-pow-right, mod-lt}
 use native.Mathlib.Numerals.{add-one}
 use lib.ListN.{length, getD, take, drop, length-drop}
 use lib.Seq.{drop-at, drop-nil, drop-append-le, drop-drop, take-length, drop-cons, take-add, length-take-le}
-use lib.Dec.{eqb, ltb, leb}
-use borrow.Author.Tests.{lt-ltb, leb-true, leb-false, le-leb, lt-leb, le-ltb}
-use lib.Pow.{pow-add, pow-pos, shl-exact, field, mod-mod-pow}
+use lib.Dec.{eqb, ltb}
+use borrow.Author.Tests.{lt-ltb, le-leb, lt-leb, le-ltb}
+use lib.Pow.{pow-pos, shl-exact, field, mod-mod-pow}
 use Rattle.rules.specs.Walk.{Symbol}
 use Rattle.rules.specs.Stream.{bitsOf, value, unpack, Taken, takeIndex}
 use Rattle.rules.specs.Session.{begins}
@@ -45,38 +45,25 @@ module _ (w x h : ℕ) (some : 0 < w) (few : w ≤ 16) (shifted : h ≡ 1 * 2 ^ 
   pub holds-zero : x < h → x < 2 ^ (w - 1)
   holds-zero l = omega (arith, weight)
 
--- a higher bit is no part of a lower one
-higher : (b j k y : ℕ) → k ≡ b + j → (y + 2 ^ suc k) / 2 ^ j % 2 ≡ y / 2 ^ j % 2
-higher b j k y q =
-    let e : 2 ^ suc k ≡ 2 ^ j * (2 * 2 ^ b) = pow-suc 2 k ∙ rw (q, pow-add 2 b j) (omega arith) in
-    rw (e, add-mul-div-left y (2 * 2 ^ b) (pow-pos j)) (omega arith)
+-- j bits of a number, after i others and before k others, by a shift
+bits-field : (i j k x : ℕ) → x < 2 ^ (i + (j + k)) → drop i (bitsOf (i + (j + k)) x) ≡ bitsOf j (x / 2 ^ k % 2 ^ j) ++ bitsOf k (x % 2 ^ k)
+bits-field i j k x h =
+    rw (bits-split i (j + k) x h, drop-at (bitsOf i (x / 2 ^ (j + k))) (bitsOf (j + k) (x % 2 ^ (j + k))) i (length-bits i (x / 2 ^ (j + k))))
+    (rw (field x j k, mod-mod-pow x j k) at (bits-split j k (x % 2 ^ (j + k)) (mod-lt x (pow-pos (j + k)))))
 
-first-bit : (j x : ℕ) → x < 2 ^ suc j → bitsOf (suc j) x ≡ eqb (x / 2 ^ j % 2) 1 ∷ drop 1 (bitsOf (suc j) x)
-first-bit j x h = go (leb (2 ^ j) x) refl
-  where
-    go : (t : Bool) → leb (2 ^ j) x ≡ t → bitsOf (suc j) x ≡ eqb (x / 2 ^ j % 2) 1 ∷ drop 1 (bitsOf (suc j) x)
-    go true e =
-        let l = leb-true (2 ^ j) x e in
-        let q : x / 2 ^ j ≡ 1 = div-eq-of-lt-le (2 ^ j) (omega arith) (omega (arith, pow-suc 2 j)) in
-        rw (bits-one j x l, q)
-    go false e = let l = leb-false (2 ^ j) x e in rw (bits-zero j x l, div-eq-of-lt l)
+bit-of : (y : ℕ) → y < 2 → bitsOf 1 y ≡ eqb y 1 ∷ []
+unfolding bitsOf
+bit-of zero h = refl
+bit-of (suc zero) h = refl
+bit-of (suc (suc y)) h = absurd (omega arith)
 
 -- the bit after b others and before j others, by a shift
-bit-at : (b j k x : ℕ) → k ≡ b + j → x < 2 ^ suc k → drop b (bitsOf (suc k) x) ≡ eqb (x / 2 ^ j % 2) 1 ∷ drop (suc b) (bitsOf (suc k) x)
-bit-at zero j k x q h = let z : j ≡ k = omega arith in rw z (first-bit k x h)
-bit-at (suc b) j zero x q h = absurd (omega arith)
-bit-at (suc b) j (suc k) x q h = go (leb (2 ^ suc k) x) refl (bit-at b j k x (omega arith)) (bit-at b j k (x - 2 ^ suc k) (omega arith))
-  where
-    go : (t : Bool) → leb (2 ^ suc k) x ≡ t
-        → (x < 2 ^ suc k → drop b (bitsOf (suc k) x) ≡ eqb (x / 2 ^ j % 2) 1 ∷ drop (suc b) (bitsOf (suc k) x))
-        → (x - 2 ^ suc k < 2 ^ suc k → drop b (bitsOf (suc k) (x - 2 ^ suc k)) ≡ eqb ((x - 2 ^ suc k) / 2 ^ j % 2) 1 ∷ drop (suc b) (bitsOf (suc k) (x - 2 ^ suc k)))
-        → drop (suc b) (bitsOf (suc (suc k)) x) ≡ eqb (x / 2 ^ j % 2) 1 ∷ drop (suc (suc b)) (bitsOf (suc (suc k)) x)
-    go true e p r =
-        let l = leb-true (2 ^ suc k) x e in
-        let d : x - 2 ^ suc k + 2 ^ suc k ≡ x = omega arith in
-        let s : x / 2 ^ j % 2 ≡ (x - 2 ^ suc k) / 2 ^ j % 2 = rw d at (higher b j k (x - 2 ^ suc k) (omega arith)) in
-        rw (bits-one (suc k) x l, s) (r (omega (arith, pow-suc 2 (suc k))))
-    go false e p r = let l = leb-false (2 ^ suc k) x e in rw (bits-zero (suc k) x l) (p l)
+bit-at : (b j x : ℕ) → x < 2 ^ (b + (1 + j)) → drop b (bitsOf (b + (1 + j)) x) ≡ eqb (x / 2 ^ j % 2) 1 ∷ drop (b + 1) (bitsOf (b + (1 + j)) x)
+bit-at b j x h =
+    let bits = bitsOf (b + (1 + j)) x in
+    let f : drop b bits ≡ eqb (x / 2 ^ j % 2) 1 ∷ bitsOf j (x % 2 ^ j) = rw (bit-of (x / 2 ^ j % 2) (omega arith)) at (bits-field b 1 j x h) in
+    let g : drop (b + 1) bits ≡ bitsOf j (x % 2 ^ j) = sym (drop-drop 1 b bits) ∙ rw f in
+    rw g f
 
 -- the bits of a page from a byte on, a byte at a time and a bit at a time
 module _ (page : List ℕ) (at : ℕ) (within : at < length page) where
@@ -89,7 +76,8 @@ module _ (page : List ℕ) (at : ℕ) (within : at < length page) where
   page-bit b h hx =
       let x = getD page at 0 in
       let l = length-bits 8 x in
-      rw (add-one b, page-byte, drop-append-le b (bitsOf 8 x) (unpack (drop (suc at) page)) (omega arith), drop-append-le (suc b) (bitsOf 8 x) (unpack (drop (suc at) page)) (omega arith), bit-at b (7 - b) 7 x (omega arith) hx)
+      let n : b + (1 + (7 - b)) ≡ 8 = omega arith in
+      rw (page-byte, drop-append-le b (bitsOf 8 x) (unpack (drop (suc at) page)) (omega arith), drop-append-le (b + 1) (bitsOf 8 x) (unpack (drop (suc at) page)) (omega arith), rw n at (bit-at b (7 - b) x (rw n hx)))
 
 -- whole bytes dropped
 unpack-drop : (k : ℕ) (xs : List ℕ) → drop (8 * k) (unpack xs) ≡ unpack (drop k xs)
@@ -105,12 +93,6 @@ pub page-moved : (page : List ℕ) (at to : ℕ) → drop (to % 8) (unpack (drop
 page-moved page at to =
     let e : 8 * (to / 8) + to % 8 ≡ to = omega arith in
     rw (← drop-drop (to / 8) at page, ← unpack-drop (to / 8) (drop at page), drop-drop (to % 8) (8 * (to / 8)) (unpack (drop at page)), e)
-
--- j bits of a number, after i others and before k others, by a shift
-bits-field : (i j k x : ℕ) → x < 2 ^ (i + (j + k)) → drop i (bitsOf (i + (j + k)) x) ≡ bitsOf j (x / 2 ^ k % 2 ^ j) ++ bitsOf k (x % 2 ^ k)
-bits-field i j k x h =
-    rw (bits-split i (j + k) x h, drop-at (bitsOf i (x / 2 ^ (j + k))) (bitsOf (j + k) (x % 2 ^ (j + k))) i (length-bits i (x / 2 ^ (j + k))))
-    (rw (field x j k, mod-mod-pow x j k) at (bits-split j k (x % 2 ^ (j + k)) (mod-lt x (pow-pos (j + k)))))
 
 -- two numbers' bits, and bits after those
 pub bits-before : (j k a b : ℕ) (rest : List Bool) → a < 2 ^ j → b < 2 ^ k → bitsOf j a ++ (bitsOf k b ++ rest) ≡ bitsOf (j + k) (a * 2 ^ k + b) ++ rest
