@@ -56,7 +56,7 @@ pub fn put_few(pen: Pen, v: u16, k: u16, start: usize, out: &mut [u8]) -> Pen
     }
 }
 
-// A number in k bits, more than a byte of them.
+// A number in k bits, a byte of them or more: those before its last eight, then those.
 pub fn put_number(pen: Pen, v: u16, k: u16, start: usize, out: &mut [u8]) -> Pen
     requires { ⌜ PenFits k pen × (8 ≤ k) × (k ≤ 16) × (v < 2 ^ k) ⌝ }
     ensures { λ r. ⌜ Put (bitsOf k v) start pen r (now (out .entry)) (now (out .exit)) ⌝ }
