@@ -1,4 +1,4 @@
 pub mod Partners
-pub mod Heads
+pub mod Ends
 pub mod Turns
 pub mod Runs

@@ -4,7 +4,7 @@ use mathlib.Core.Path.{_≡_}
 use mathlib.Core.Logic.{_≢_, _⊎_}
 use mathlib.Core.Bool.{Bool, true, not, _&&_}
 use mathlib.Core.List.{List}
-use lib.ListN.{length, getD, set}
+use lib.ListN.{length, getD, set, drop}
 use lib.Dec.{eqb, ltb}
 use Rattle.rules.specs.Map.{Limits, mark, place, link}
 use Rattle.rules.specs.Walk.{Walk, Head, head}
@@ -17,6 +17,7 @@ use Rattle.symbols.specs.declared.Cursor.{Cursor}
 use Rattle.symbols.specs.declared.Taken.{Taken}
 use Rattle.symbols.specs.Cursors.{atHand, CursorFits, told}
 use Rattle.steps.specs.declared.Stand.{Stand}
+use Rattle.steps.specs.declared.Outcome.{Outcome}
 use Rattle.steps.specs.declared.Turned.{Turned}
 use Rattle.steps.specs.declared.Signal.{Signal}
 use Rattle.steps.specs.declared.Signal.the-variants.{More, Ended, Waits, Refused}
@@ -70,9 +71,26 @@ standPassed s j = record { count = s .count; positions = set (s .positions) j (g
 abbrev pub standCounted : Stand → Stand
 standCounted s = record { count = s .count + 1; positions = s .positions }
 
+-- the stand that ends stand for: Lj holds the walk numbers from the end at j + 1 up to the end at j
+unfoldable pub standOf : List ℕ → Stand
+standOf l = record { count = getD l 0 0; positions = drop 1 l }
+
+-- what a turn leaves, with the stand of the ends that it leaves
+abbrev pub turnedAt : Outcome → List ℕ → Turned
+turnedAt r l = record { stand = standOf l; cursor = r .cursor; signal = r .signal }
+
+-- the queues below Lj are empty
+pub record Emptied (l : List ℕ) (j : ℕ) : Type 0 where
+  pub lower : (i : ℕ) → i < j → getD l i 0 ≤ getD l (i + 1) 0
+
+-- Lj is the lowest queue that isn't empty, or all are empty
+pub record Lowest (l : List ℕ) (N j : ℕ) : Type 0 where
+  pub emptied : Emptied l j
+  pub filled : j ≤ N → getD l (j + 1) 0 < getD l j 0
+
 -- aj(b) = e was made known, and b has left Lj
-pub record Tied (N n : ℕ) (s : Stand) (c : Cursor) (t : List ℕ) (j b e : ℕ) (r : Turned) (t' : List ℕ) : Type 0 where
-  pub turned : r ≡ record { stand = standPassed s j; cursor = c; signal = More }
+pub record Tied (N n : ℕ) (l t : List ℕ) (j b e : ℕ) (l' t' : List ℕ) : Type 0 where
+  pub ends : l' ≡ set l (j + 1) (b + 1)
   pub tables : t' ≡ tablesJoined N n t j b e
 
 -- a walk that may be stepped: what holds of it, the bits at hand, and bits wait only where a symbol is asked that they begin
@@ -83,14 +101,16 @@ pub record Ready (N n : ℕ) (s : Stand) (c : Cursor) (t page : List ℕ) : Type
   pub begun : (c .waiting ≡ 0) ⊎ Asks (walkAt N n s t) (bitsOf (c .waiting) (c .value))
 
 -- b is at the head of Lj
-pub record Served (N n : ℕ) (s : Stand) (t : List ℕ) (j b : ℕ) : Type 0 where
-  pub inv : Inv (walkAt N n s t)
-  pub heads : head (walkAt N n s t) ≡ Head.at j b
+pub record Served (N n : ℕ) (l t : List ℕ) (j b : ℕ) : Type 0 where
+  pub inv : Inv (walkAt N n (standOf l) t)
+  pub heads : head (walkAt N n (standOf l) t) ≡ Head.at j b
   pub limits : Limits N n t
+  pub eight : length l ≡ 8
+  pub emptied : Emptied l j
   pub ranked : j ≤ N
-  pub first : getD (s .positions) j 0 ≡ b
-  pub below : b < s .count
-  pub within : s .count ≤ n
+  pub first : getD l (j + 1) 0 ≡ b
+  pub below : b < getD l 0 0
+  pub within : getD l 0 0 ≤ n
 
 -- what a step with a symbol leaves: it never comes to the end, and no bit waits where those that did begin a symbol
 pub record Taking (N n : ℕ) (s : Stand) (c : Cursor) (t page : List ℕ) (j b : ℕ) (taken : Taken) (r : Turned) (t' : List ℕ) : Type 0 where

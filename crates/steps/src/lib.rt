@@ -5,13 +5,13 @@ use symbols::Cursor;
 use symbols::Taken;
 ghost use mathlib.Core.Path.{_≡_};
 ghost use mathlib.Core.List.{List};
-ghost use Prim.Native.Nat.{ℕ, _-_, _≤_, _<_};
-ghost use lib.ListN.{getD};
+ghost use Prim.Native.Nat.{ℕ, _+_, _-_, _≤_, _<_};
+ghost use lib.ListN.{length, set};
 ghost use Rattle.rules.specs.Map.{Limits, link};
 ghost use Rattle.rules.specs.Walk;
 ghost use Rattle.symbols.specs.Cursors.{CursorFits, PastSymbol};
 ghost use Rattle.steps.specs.Partners.{looking, toldPartner};
-ghost use Rattle.steps.specs.Turns.{walkAt, tablesJoined, mayName, standPassed, Tied, Ready, Served, Taking, Turns, Runs};
+ghost use Rattle.steps.specs.Turns.{walkAt, tablesJoined, mayName, standOf, turnedAt, Emptied, Lowest, Tied, Ready, Served, Taking, Turns, Runs};
 
 // Where a reading's walk stands: the darts numbered, and how many have left each queue.
 pub struct Stand {
@@ -37,6 +37,14 @@ pub enum Signal {
 // Where a step or a run leaves the walk and the bits.
 pub struct Turned {
     pub stand: Stand,
+    pub cursor: Cursor,
+    pub signal: Signal,
+}
+
+// Where a step leaves the bits, with a rank that no queue below isn't empty. The walk itself stands in the ends, an array of eight that a run lends:
+// the count, then the positions, so that Lj holds the walk numbers from ends[j + 1] up to ends[j].
+pub struct Outcome {
+    pub rank: usize,
     pub cursor: Cursor,
     pub signal: Signal,
 }
@@ -110,83 +118,93 @@ pub fn nameable(
     follow(tables, dim, darts, j, e).0 == Session::NO_LINK
 }
 
-// b has left Lj.
-pub fn passed(s: Stand, j: usize) -> Stand
-    requires { ⌜ (j < 7) × (getD (s .positions) j 0 < 65535) ⌝ }
-    ensures { λ r. ⌜ r ≡ standPassed s j ⌝ }
+// What a step leaves.
+pub fn comes_to(rank: usize, cursor: Cursor, signal: Signal) -> Outcome
+    ensures { λ r. ⌜ r ≡ record { rank = rank; cursor = cursor; signal = signal } ⌝ }
 {
-    let mut next = s;
-    next.positions[j] = s.positions[j] + 1;
-    next
-}
-
-// The step that makes aj(b) = e known, with the count after it.
-pub fn tied(
-    tables: &mut [u16],
-    dim: usize,
-    darts: usize,
-    s: Stand,
-    c: Cursor,
-    j: usize,
-    b: WalkNo,
-    e: WalkNo,
-) -> Turned
-    requires { ⌜ Limits dim darts (now tables) × (j ≤ dim) × (b .0 < darts) × (e .0 < darts) × (getD (s .positions) j 0 < 65535) ⌝ }
-    ensures { λ r. ⌜ Tied dim darts s c (now (tables .entry)) j (b .0) (e .0) r (now (tables .exit)) ⌝ }
-{
-    join(tables, dim, darts, j, b, e);
-    let next = passed(s, j);
-    Turned {
-        stand: next,
-        cursor: c,
-        signal: Signal::More,
+    Outcome {
+        rank,
+        cursor,
+        signal,
     }
 }
 
-// A step by a symbol that was taken at the head b of Lj.
-pub fn by_symbol(
+// The lowest queue that isn't empty, or a rank past N. A search goes on where the last step was made: the queues below are still empty.
+pub fn lowest(ends: &[u16], dim: usize, rank: usize) -> usize
+    requires { ⌜ (length (now ends) ≡ 8) × (dim ≤ 6) × Emptied (now ends) rank ⌝ }
+    ensures { λ r. ⌜ Lowest (now (ends .entry)) dim r ⌝ }
+{
+    let mut j = rank;
+    while j <= dim {
+        if ends[j + 1] < ends[j] {
+            return j;
+        }
+        j += 1;
+    }
+    j
+}
+
+// b has left Lj.
+pub fn passed(ends: &mut [u16], j: usize, b: WalkNo)
+    requires { ⌜ (length (now ends) ≡ 8) × (j ≤ 6) × (b .0 < 65535) ⌝ }
+    ensures { λ _. ⌜ now (ends .exit) ≡ set (now (ends .entry)) (j + 1) (b .0 + 1) ⌝ }
+{
+    ends[j + 1] = b.0 + 1;
+}
+
+// The step that makes aj(b) = e known.
+pub fn tied(
     tables: &mut [u16],
+    ends: &mut [u16],
     dim: usize,
     darts: usize,
-    s: Stand,
+    j: usize,
+    b: WalkNo,
+    e: WalkNo,
+)
+    requires { ⌜ Limits dim darts (now tables) × (length (now ends) ≡ 8) × (j ≤ dim) × (b .0 < darts) × (e .0 < darts) ⌝ }
+    ensures { λ _. ⌜ Tied dim darts (now (ends .entry)) (now (tables .entry)) j (b .0) (e .0) (now (ends .exit)) (now (tables .exit)) ⌝ }
+{
+    join(tables, dim, darts, j, b, e);
+    passed(ends, j, b);
+}
+
+// A step by a symbol that was taken at the head b of Lj. A new dart enters L0, so the search begins there again.
+pub fn by_symbol(
+    tables: &mut [u16],
+    ends: &mut [u16],
+    dim: usize,
+    darts: usize,
     c: Cursor,
     j: usize,
     b: WalkNo,
     taken: Taken,
-) -> Turned
-    requires { ⌜ Served dim darts s (now tables) j (b .0) × (Rattle.rules.specs.Walk.partner (walkAt dim darts s (now tables)) j (b .0) ≡ Rattle.rules.specs.Walk.Partner.asked) ⌝ }
-    ensures { λ r. ⌜ ((page : List ℕ) → CursorFits c page → PastSymbol taken c page → Taking dim darts s c (now (tables .entry)) page j (b .0) taken r (now (tables .exit))) ⌝ }
+) -> Outcome
+    requires { ⌜ Served dim darts (now ends) (now tables) j (b .0) × (Rattle.rules.specs.Walk.partner (walkAt dim darts (standOf (now ends)) (now tables)) j (b .0) ≡ Rattle.rules.specs.Walk.Partner.asked) ⌝ }
+    ensures { λ r. ⌜ ((page : List ℕ) → CursorFits c page → PastSymbol taken c page → Taking dim darts (standOf (now (ends .entry))) c (now (tables .entry)) page j (b .0) taken (turnedAt r (now (ends .exit))) (now (tables .exit))) × Emptied (now (ends .exit)) (r .rank) ⌝ }
 {
     match taken {
-        Taken::Short => Turned {
-            stand: s,
-            cursor: c,
-            signal: Signal::Waits,
-        },
-        Taken::Border(d) => tied(tables, dim, darts, s, d, j, b, b),
+        Taken::Short => comes_to(j, c, Signal::Waits),
+        Taken::Border(d) => {
+            tied(tables, ends, dim, darts, j, b, b);
+            comes_to(j, d, Signal::More)
+        }
         Taken::Index(e, d) => {
-            if nameable(tables, dim, darts, s.count, j, b, e) {
-                tied(tables, dim, darts, s, d, j, b, e)
+            if nameable(tables, dim, darts, ends[0], j, b, e) {
+                tied(tables, ends, dim, darts, j, b, e);
+                comes_to(j, d, Signal::More)
             } else {
-                Turned {
-                    stand: s,
-                    cursor: c,
-                    signal: Signal::Refused(12),
-                }
+                comes_to(j, c, Signal::Refused(12))
             }
         }
         Taken::New(d) => {
-            let n = s.count;
+            let n = ends[0];
             if (n as usize) < darts {
-                let mut more = s;
-                more.count = n + 1;
-                tied(tables, dim, darts, more, d, j, b, WalkNo(n))
+                ends[0] = n + 1;
+                tied(tables, ends, dim, darts, j, b, WalkNo(n));
+                comes_to(0, d, Signal::More)
             } else {
-                Turned {
-                    stand: s,
-                    cursor: c,
-                    signal: Signal::Refused(13),
-                }
+                comes_to(j, c, Signal::Refused(13))
             }
         }
     }
@@ -195,66 +213,62 @@ pub fn by_symbol(
 // One step with the bits at hand.
 pub fn turn(
     tables: &mut [u16],
+    ends: &mut [u16],
     dim: usize,
     darts: usize,
-    s: Stand,
+    rank: usize,
     c: Cursor,
     page: &[u8],
-) -> Turned
-    requires { ⌜ Ready dim darts s c (now tables) (now page) ⌝ }
-    ensures { λ r. ⌜ Turns dim darts s c (now (tables .entry)) (now (page .entry)) r (now (tables .exit)) ⌝ }
+) -> Outcome
+    requires { ⌜ Ready dim darts (standOf (now ends)) c (now tables) (now page) × Emptied (now ends) rank ⌝ }
+    ensures { λ r. ⌜ Turns dim darts (standOf (now (ends .entry))) c (now (tables .entry)) (now (page .entry)) (turnedAt r (now (ends .exit))) (now (tables .exit)) × Emptied (now (ends .exit)) (r .rank) ⌝ }
 {
-    let positions = s.positions;
-    let j = walk::lowest(dim, s.count, positions);
+    let j = lowest(ends, dim, rank);
     if dim < j {
-        return Turned {
-            stand: s,
-            cursor: c,
-            signal: Signal::Ended,
-        };
+        return comes_to(j, c, Signal::Ended);
     }
-    let b = WalkNo(positions[j]);
+    let b = WalkNo(ends[j + 1]);
     let case = partner(tables, dim, darts, j, b);
     match case {
         Case::Known => {
-            let next = passed(s, j);
-            Turned {
-                stand: next,
-                cursor: c,
-                signal: Signal::More,
-            }
+            passed(ends, j, b);
+            comes_to(j, c, Signal::More)
         }
         Case::Deduced(e) => {
             if follow(tables, dim, darts, j, e).0 == Session::NO_LINK {
-                tied(tables, dim, darts, s, c, j, b, e)
+                tied(tables, ends, dim, darts, j, b, e);
+                comes_to(j, c, Signal::More)
             } else {
-                Turned {
-                    stand: s,
-                    cursor: c,
-                    signal: Signal::Refused(14),
-                }
+                comes_to(j, c, Signal::Refused(14))
             }
         }
         Case::Asked => {
             let taken = c.take_symbol(page);
-            by_symbol(tables, dim, darts, s, c, j, b, taken)
+            by_symbol(tables, ends, dim, darts, c, j, b, taken)
         }
     }
 }
 
-// Every step that needs no bit beyond those at hand.
-pub fn run(tables: &mut [u16], dim: usize, darts: usize, s: Stand, c: Cursor, page: &[u8]) -> Turned
-    requires { ⌜ Ready dim darts s c (now tables) (now page) ⌝ }
-    ensures { λ r. ⌜ Runs dim darts s c (now (tables .entry)) (now (page .entry)) r (now (tables .exit)) ⌝ }
+// Every step that needs no bit beyond those at hand, over the ends.
+pub fn walk_on(
+    tables: &mut [u16],
+    ends: &mut [u16],
+    dim: usize,
+    darts: usize,
+    c: Cursor,
+    page: &[u8],
+) -> Outcome
+    requires { ⌜ Ready dim darts (standOf (now ends)) c (now tables) (now page) ⌝ }
+    ensures { λ r. ⌜ Runs dim darts (standOf (now (ends .entry))) c (now (tables .entry)) (now (page .entry)) (turnedAt r (now (ends .exit))) (now (tables .exit)) ⌝ }
 {
-    let mut stand = s;
+    let mut rank = 0;
     let mut cursor = c;
     loop {
-        let t = turn(tables, dim, darts, stand, cursor, page);
+        let t = turn(tables, ends, dim, darts, rank, cursor, page);
         let signal = t.signal;
         match signal {
             Signal::More => {
-                stand = t.stand;
+                rank = t.rank;
                 cursor = t.cursor;
             }
             Signal::Ended => {
@@ -267,5 +281,42 @@ pub fn run(tables: &mut [u16], dim: usize, darts: usize, s: Stand, c: Cursor, pa
                 return t;
             }
         }
+    }
+}
+
+// The stand that ends stand for.
+pub fn stand_at(ends: &[u16]) -> Stand
+    requires { ⌜ length (now ends) ≡ 8 ⌝ }
+    ensures { λ r. ⌜ r ≡ standOf (now (ends .entry)) ⌝ }
+{
+    Stand {
+        count: ends[0],
+        positions: [
+            ends[1],
+            ends[2],
+            ends[3],
+            ends[4],
+            ends[5],
+            ends[6],
+            ends[7],
+        ],
+    }
+}
+
+// The run from a stand: the ends are lent, so that no step copies them.
+pub fn run(tables: &mut [u16], dim: usize, darts: usize, s: Stand, c: Cursor, page: &[u8]) -> Turned
+    requires { ⌜ Ready dim darts s c (now tables) (now page) ⌝ }
+    ensures { λ r. ⌜ Runs dim darts s c (now (tables .entry)) (now (page .entry)) r (now (tables .exit)) ⌝ }
+{
+    let p = s.positions;
+    let mut ends = [s.count, p[0], p[1], p[2], p[3], p[4], p[5], p[6]];
+    let t = walk_on(tables, &mut ends, dim, darts, c, page);
+    let stand = stand_at(&ends);
+    let cursor = t.cursor;
+    let signal = t.signal;
+    Turned {
+        stand,
+        cursor,
+        signal,
     }
 }

@@ -1,74 +1,62 @@
--- `steps::run` meets its contract: what is left to do from here is what was to do at the start. Assumes nothing.
+-- `steps::run` meets its contract: the run over the ends, which stand for the stand before and after. Assumes nothing.
 use borrow.Author.Needs.{needs}
-use Rattle.steps.proofs.Runs.{Going, going-start, stepsLeft, going-less, going-more, run-ended, run-waits, run-refused}
+use Rattle.steps.proofs.Runs.{ready-ends, runs-ends}
 use Rattle.steps.proofs.run.Statement.{statement}
 use Rattle.steps.proofs.run.Tie as tie
 
-abbrev Inv-loop : tie.InvT-loop
-Inv-loop tables₀ dim darts page stand₀ cursor₀ tables stand cursor = Going dim darts stand₀ cursor₀ tables₀ page stand cursor tables
+array-read-t15 : tie.Need-array-read-t15
+array-read-t15 c = search needs
 
-abbrev μ-loop : tie.MeasureT-loop
-μ-loop tables₀ dim darts page stand₀ cursor₀ tables stand cursor = stepsLeft dim darts stand
+array-read-t18 : tie.Need-array-read-t18
+array-read-t18 c = search needs
 
-loop-holds : tie.Need-loop-holds Inv-loop μ-loop
-loop-holds c = going-start _ _ _ _ _ _ (c .before .before .pre)
+array-read-t21 : tie.Need-array-read-t21
+array-read-t21 c = search needs
 
-turn-requires : tie.Need-turn-requires Inv-loop μ-loop
-turn-requires c κs = c .before .loop .inv .ready
+array-read-t24 : tie.Need-array-read-t24
+array-read-t24 c = search needs
 
-enum-told : tie.Need-enum-told Inv-loop μ-loop
-enum-told c = search needs
+array-read-t27 : tie.Need-array-read-t27
+array-read-t27 c = search needs
 
-loop-less : tie.Need-loop-less Inv-loop μ-loop
-loop-less c = going-less _ _ _ _ _ _ _ _ _ (c .before .before .before .before .before .before .before .before .loop .inv) _ _ (c .before .before .before .before .before .before .turn .ensures) (c .before .before .enum-told .given .1)
+array-read-t30 : tie.Need-array-read-t30
+array-read-t30 c = search needs
 
-loop-again : tie.Need-loop-again Inv-loop μ-loop
-loop-again c = going-more _ _ _ _ _ _ _ _ _ (c .before .before .before .before .before .before .before .before .loop .inv) _ _ (c .before .before .before .before .before .before .turn .ensures) (c .before .before .enum-told .given .1) (search needs)
+array-read-t33 : tie.Need-array-read-t33
+array-read-t33 c = search needs
 
-enum-told-2 : tie.Need-enum-told-2 Inv-loop μ-loop
-enum-told-2 c = search needs
+slice-aggregate-walk-on : tie.Need-slice-aggregate-walk-on
+slice-aggregate-walk-on c = search needs
 
-same-length : tie.Need-same-length Inv-loop μ-loop
+walk-on-requires : tie.Need-walk-on-requires
+walk-on-requires c κs = ready-ends _ _ _ _ _ _ (c .before .before .before .before .before .pre)
+
+slice-aggregate-stand-at : tie.Need-slice-aggregate-stand-at
+slice-aggregate-stand-at c = search needs
+
+stand-at-requires : tie.Need-stand-at-requires
+stand-at-requires c κs = search needs
+
+same-length : tie.Need-same-length
 same-length c = search needs
 
-returns : tie.Need-returns Inv-loop μ-loop
-returns c = run-ended _ _ _ _ _ _ _ _ _ (c .before .before .before .before .before .before .loop .inv) _ _ (c .before .before .before .before .turn .ensures) (c .enum-told2 .given .1)
-
-enum-told-3 : tie.Need-enum-told-3 Inv-loop μ-loop
-enum-told-3 c = search needs
-
-same-length-2 : tie.Need-same-length-2 Inv-loop μ-loop
-same-length-2 c = search needs
-
-returns-2 : tie.Need-returns-2 Inv-loop μ-loop
-returns-2 c = run-waits _ _ _ _ _ _ _ _ _ (c .before .before .before .before .before .before .loop .inv) _ _ (c .before .before .before .before .turn .ensures) (c .enum-told3 .given .1)
-
-enum-told-4 : tie.Need-enum-told-4 Inv-loop μ-loop
-enum-told-4 c = search needs
-
-same-length-3 : tie.Need-same-length-3 Inv-loop μ-loop
-same-length-3 c = search needs
-
-returns-3 : tie.Need-returns-3 Inv-loop μ-loop
-returns-3 c = run-refused _ _ _ _ _ _ _ _ _ (c .before .before .before .before .before .before .loop .inv) _ _ (c .before .before .before .before .turn .ensures) _ (c .enum-told4 .given .1)
+returns : tie.Need-returns
+returns c = rw (c .before .stand-at .ensures) (runs-ends _ _ _ _ _ _ (c .before .before .before .before .before .before .before .before .before .before .before .before .pre) _ _ (c .before .before .before .before .before .before .walk-on .ensures))
 
 pub run-spec : {M : Type 1} → statement M
 run-spec =
     tie.close
     (tie.spec
-    Inv-loop
-    μ-loop
-    loop-holds
-    turn-requires
-    enum-told
-    loop-less
-    loop-again
-    enum-told-2
+    array-read-t15
+    array-read-t18
+    array-read-t21
+    array-read-t24
+    array-read-t27
+    array-read-t30
+    array-read-t33
+    slice-aggregate-walk-on
+    walk-on-requires
+    slice-aggregate-stand-at
+    stand-at-requires
     same-length
-    returns
-    enum-told-3
-    same-length-2
-    returns-2
-    enum-told-4
-    same-length-3
-    returns-3)
+    returns)

@@ -1,0 +1,46 @@
+-- `steps::stand_at` meets its contract: eight ends are a count and seven positions. Assumes nothing.
+use borrow.Author.Needs.{needs}
+use Rattle.steps.proofs.Ends.{stand-read}
+use Rattle.steps.proofs.stand_at.Statement.{statement}
+use Rattle.steps.proofs.stand_at.Tie as tie
+
+shared-slice-read-t3 : tie.Need-shared-slice-read-t3
+shared-slice-read-t3 c = search needs
+
+shared-slice-read-t5 : tie.Need-shared-slice-read-t5
+shared-slice-read-t5 c = search needs
+
+shared-slice-read-t7 : tie.Need-shared-slice-read-t7
+shared-slice-read-t7 c = search needs
+
+shared-slice-read-t9 : tie.Need-shared-slice-read-t9
+shared-slice-read-t9 c = search needs
+
+shared-slice-read-t11 : tie.Need-shared-slice-read-t11
+shared-slice-read-t11 c = search needs
+
+shared-slice-read-t13 : tie.Need-shared-slice-read-t13
+shared-slice-read-t13 c = search needs
+
+shared-slice-read-t15 : tie.Need-shared-slice-read-t15
+shared-slice-read-t15 c = search needs
+
+shared-slice-read-t17 : tie.Need-shared-slice-read-t17
+shared-slice-read-t17 c = search needs
+
+returns : tie.Need-returns
+returns c = stand-read _ (c .before .before .before .before .before .before .before .before .pre)
+
+pub stand-at-spec : {M : Type 1} → statement M
+stand-at-spec =
+    tie.close
+    (tie.spec
+    shared-slice-read-t3
+    shared-slice-read-t5
+    shared-slice-read-t7
+    shared-slice-read-t9
+    shared-slice-read-t11
+    shared-slice-read-t13
+    shared-slice-read-t15
+    shared-slice-read-t17
+    returns)

@@ -1,0 +1,92 @@
+-- `steps::walk_on` meets its contract: what is left to do from here is what was to do at the start, and the queues below the rank are empty. Assumes nothing.
+use mathlib.Core.Path.{_≡_}
+use lib.ListN.{length}
+use borrow.Author.Needs.{needs}
+use Rattle.steps.specs.Turns.{standOf, Emptied}
+use Rattle.steps.proofs.Ends.{emptied-none}
+use Rattle.steps.proofs.Runs.{Going, going-start, stepsLeft, going-less, going-more, run-ended, run-waits, run-refused}
+use Rattle.steps.proofs.walk_on.Statement.{statement}
+use Rattle.steps.proofs.walk_on.Tie as tie
+
+abbrev Inv-loop : tie.InvT-loop
+Inv-loop tables₀ ends₀ dim darts page rank₀ cursor₀ tables ends rank cursor = Going dim darts (standOf ends₀) cursor₀ tables₀ page (standOf ends) cursor tables × Emptied ends rank × (length ends ≡ length ends₀)
+
+abbrev μ-loop : tie.MeasureT-loop
+μ-loop tables₀ ends₀ dim darts page rank₀ cursor₀ tables ends rank cursor = stepsLeft dim darts (standOf ends)
+
+loop-holds : tie.Need-loop-holds Inv-loop μ-loop
+loop-holds c = (going-start _ _ _ _ _ _ (c .before .before .before .pre), emptied-none _, search needs)
+
+turn-requires : tie.Need-turn-requires Inv-loop μ-loop
+turn-requires c κs = (c .before .before .loop .inv .0 .ready, c .before .before .loop .inv .1)
+
+enum-told : tie.Need-enum-told Inv-loop μ-loop
+enum-told c = search needs
+
+loop-less : tie.Need-loop-less Inv-loop μ-loop
+loop-less c = going-less _ _ _ _ _ _ _ _ _ (c .before .before .before .before .before .before .before .before .before .before .loop .inv .0) _ _ (c .before .before .before .before .before .before .before .turn .ensures .0) (c .before .enum-told .given .1)
+
+loop-again : tie.Need-loop-again Inv-loop μ-loop
+loop-again c =
+    let x = c .before .before .before .before .before .before .before .turn .ensures in
+    (going-more _ _ _ _ _ _ _ _ _ (c .before .before .before .before .before .before .before .before .before .before .loop .inv .0) _ _ (x .0) (c .before .enum-told .given .1) (search needs), x .1, search needs)
+
+enum-told-2 : tie.Need-enum-told-2 Inv-loop μ-loop
+enum-told-2 c = search needs
+
+same-length : tie.Need-same-length Inv-loop μ-loop
+same-length c = search needs
+
+same-length-2 : tie.Need-same-length-2 Inv-loop μ-loop
+same-length-2 c = search needs
+
+returns : tie.Need-returns Inv-loop μ-loop
+returns c = run-ended _ _ _ _ _ _ _ _ _ (c .before .before .before .before .before .before .before .before .before .loop .inv .0) _ _ (c .before .before .before .before .before .before .turn .ensures .0) (c .enum-told2 .given .1)
+
+enum-told-3 : tie.Need-enum-told-3 Inv-loop μ-loop
+enum-told-3 c = search needs
+
+same-length-3 : tie.Need-same-length-3 Inv-loop μ-loop
+same-length-3 c = search needs
+
+same-length-4 : tie.Need-same-length-4 Inv-loop μ-loop
+same-length-4 c = search needs
+
+returns-2 : tie.Need-returns-2 Inv-loop μ-loop
+returns-2 c = run-waits _ _ _ _ _ _ _ _ _ (c .before .before .before .before .before .before .before .before .before .loop .inv .0) _ _ (c .before .before .before .before .before .before .turn .ensures .0) (c .enum-told3 .given .1)
+
+enum-told-4 : tie.Need-enum-told-4 Inv-loop μ-loop
+enum-told-4 c = search needs
+
+same-length-5 : tie.Need-same-length-5 Inv-loop μ-loop
+same-length-5 c = search needs
+
+same-length-6 : tie.Need-same-length-6 Inv-loop μ-loop
+same-length-6 c = search needs
+
+returns-3 : tie.Need-returns-3 Inv-loop μ-loop
+returns-3 c = run-refused _ _ _ _ _ _ _ _ _ (c .before .before .before .before .before .before .before .before .before .loop .inv .0) _ _ (c .before .before .before .before .before .before .turn .ensures .0) _ (c .enum-told4 .given .1)
+
+pub walk-on-spec : {M : Type 1} → statement M
+walk-on-spec =
+    tie.close
+    (tie.spec
+    Inv-loop
+    μ-loop
+    loop-holds
+    turn-requires
+    enum-told
+    loop-less
+    loop-again
+    enum-told-2
+    same-length
+    same-length-2
+    returns
+    enum-told-3
+    same-length-3
+    same-length-4
+    returns-2
+    enum-told-4
+    same-length-5
+    same-length-6
+    returns-3)
