@@ -1,6 +1,6 @@
 -- The ends: the stand that they stand for, before and after a step, the queues below a rank, and the head of the queues. Rests on the rules' Positions.
 use Prim.Native.Nat.{ℕ, suc, _+_, _≤_, _<_}
-use mathlib.Core.Path.{_≡_, refl, ap, sym, _∙_}
+use mathlib.Core.Path.{_≡_, refl}
 use mathlib.Core.Logic.{_≢_}
 use mathlib.Core.List.{List, [], _∷_}
 use native.Mathlib.Omega.{arith}
@@ -10,7 +10,15 @@ use lib.Seq.{getD-set-other}
 use Rattle.rules.specs.Walk.{Walk, Head, head}
 use Rattle.rules.proofs.Positions.{gone, bound, Shape, Turn, bound-le-count, turn, over}
 use Rattle.steps.specs.declared.Stand.{Stand}
-use Rattle.steps.specs.Turns.{walkAt, standPassed, standCounted, standOf, Emptied, Lowest}
+use Rattle.steps.specs.Turns.{walkAt, standOf, Emptied, Lowest}
+
+-- b has left Lj
+abbrev pub standPassed : Stand → ℕ → Stand
+standPassed s j = record { count = s .count; positions = set (s .positions) j (getD (s .positions) j 0 + 1) }
+
+-- one more dart is numbered
+abbrev pub standCounted : Stand → Stand
+standCounted s = record { count = s .count + 1; positions = s .positions }
 
 -- the end at rank i is the bound of Li, the next one is its position
 end-bound : (l : List ℕ) (i : ℕ) → 1 ≤ length l → getD (getD l 0 0 ∷ drop 1 l) i 0 ≡ getD l i 0
@@ -24,13 +32,13 @@ end-gone l i = let e : i + 1 ≡ suc i = omega arith in rw e (go l)
     go [] = refl
     go (x ∷ xs) = refl
 
--- there are eight
+-- seven positions make eight ends
 pub ends-eight : (l : List ℕ) → length (standOf l .positions) ≡ 7 → length l ≡ 8
 unfolding standOf
 ends-eight [] h = absurd (omega arith)
 ends-eight (x ∷ xs) h = omega arith
 
--- the stand after b has left Lj, and after one more dart is numbered
+-- what a step writes into the ends is what it does to the stand
 pub stand-passed : (l : List ℕ) (j b : ℕ) → length l ≡ 8 → getD l (j + 1) 0 ≡ b → standOf (set l (j + 1) (b + 1)) ≡ standPassed (standOf l) j
 unfolding standOf
 stand-passed l j b h q = let e : j + 1 ≡ suc j = omega arith in rw (← q, e) (go l (omega arith))

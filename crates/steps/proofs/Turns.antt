@@ -19,7 +19,7 @@ use Rattle.rules.specs.declared.Session.{Session}
 use Rattle.rules.specs.declared.WalkNo.{WalkNo}
 use Rattle.rules.proofs.Lists.{and-left}
 use Rattle.rules.proofs.Places.{place-below}
-use Rattle.rules.proofs.Positions.{gone, Shape, bound-le-count, turn}
+use Rattle.rules.proofs.Positions.{Shape, bound-le-count, turn}
 use Rattle.rules.proofs.Walks.{Inv, start-inv, next-of, deduced-below}
 use Rattle.rules.proofs.Moves.{Move, moved, see-deduced, step-move}
 use Rattle.rules.proofs.Readings.{Asks}
@@ -35,9 +35,9 @@ use Rattle.steps.specs.declared.Signal.the-variants.{More, Ended, Waits,
 use Rattle.steps.specs.declared.Case.{Case}
 use Rattle.steps.specs.declared.Case.the-variants.{Known, Deduced, Asked}
 use Rattle.steps.specs.Partners.{looking, toldPartner}
-use Rattle.steps.specs.Turns.{walkAt, signalStep, toldStep, tablesJoined, mayName, standPassed, standCounted, standOf, Lowest, Tied, Ready, Served, Taking, Turns}
+use Rattle.steps.specs.Turns.{walkAt, signalStep, toldStep, tablesJoined, mayName, standOf, Lowest, Tied, Ready, Served, Taking, Turns}
 use Rattle.steps.proofs.Partners.{partner-looking}
-use Rattle.steps.proofs.Ends.{ends-eight, stand-passed, stand-counted, lowest-here, lowest-over}
+use Rattle.steps.proofs.Ends.{standPassed, standCounted, ends-eight, stand-passed, stand-counted, lowest-here, lowest-over}
 
 -- a link's place is within the tables
 pub place-room : (N n : ℕ) (t : List ℕ) (j b : ℕ) → Limits N n t → j ≤ N → b < n → (p : ℕ) → p ≡ place N n j b → p < length t

@@ -63,14 +63,6 @@ tablesJoined N n t j b e = set (set t (place N n j b) e) (place N n j e) b
 abbrev pub mayName : ℕ → ℕ → List ℕ → ℕ → ℕ → ℕ → ℕ → Bool
 mayName N n t count j b e = ltb e count && not (eqb e b) && eqb (link N n t j e) mark
 
--- b has left Lj
-abbrev pub standPassed : Stand → ℕ → Stand
-standPassed s j = record { count = s .count; positions = set (s .positions) j (getD (s .positions) j 0 + 1) }
-
--- one more dart is numbered
-abbrev pub standCounted : Stand → Stand
-standCounted s = record { count = s .count + 1; positions = s .positions }
-
 -- the stand that ends stand for: Lj holds the walk numbers from the end at j + 1 up to the end at j
 unfoldable pub standOf : List ℕ → Stand
 standOf l = record { count = getD l 0 0; positions = drop 1 l }

@@ -41,7 +41,7 @@ pub struct Turned {
     pub signal: Signal,
 }
 
-// Where a step leaves the bits, with a rank that no queue below isn't empty. The walk itself stands in the ends, an array of eight that a run lends:
+// What a step comes to, with a rank below which all queues are empty. The walk itself stands in the ends, eight numbers that a run lends:
 // the count, then the positions, so that Lj holds the walk numbers from ends[j + 1] up to ends[j].
 pub struct Outcome {
     pub rank: usize,
@@ -118,7 +118,7 @@ pub fn nameable(
     follow(tables, dim, darts, j, e).0 == Session::NO_LINK
 }
 
-// What a step leaves.
+// Where a step leaves off.
 pub fn comes_to(rank: usize, cursor: Cursor, signal: Signal) -> Outcome
     ensures { λ r. ⌜ r ≡ record { rank = rank; cursor = cursor; signal = signal } ⌝ }
 {
@@ -129,7 +129,7 @@ pub fn comes_to(rank: usize, cursor: Cursor, signal: Signal) -> Outcome
     }
 }
 
-// The lowest queue that isn't empty, or a rank past N. A search goes on where the last step was made: the queues below are still empty.
+// The lowest queue that isn't empty, or a rank past N, searched from a rank below which all are empty: most steps leave them so.
 pub fn lowest(ends: &[u16], dim: usize, rank: usize) -> usize
     requires { ⌜ (length (now ends) ≡ 8) × (dim ≤ 6) × Emptied (now ends) rank ⌝ }
     ensures { λ r. ⌜ Lowest (now (ends .entry)) dim r ⌝ }
@@ -169,7 +169,7 @@ pub fn tied(
     passed(ends, j, b);
 }
 
-// A step by a symbol that was taken at the head b of Lj. A new dart enters L0, so the search begins there again.
+// A step by a symbol that was taken at the head b of Lj. A new dart enters L0, so the next search begins there.
 pub fn by_symbol(
     tables: &mut [u16],
     ends: &mut [u16],
@@ -228,16 +228,16 @@ pub fn turn(
         return comes_to(j, c, Signal::Ended);
     }
     let b = WalkNo(ends[j + 1]);
-    let case = partner(tables, dim, darts, j, b);
-    match case {
+    let onward = comes_to(j, c, Signal::More);
+    match partner(tables, dim, darts, j, b) {
         Case::Known => {
             passed(ends, j, b);
-            comes_to(j, c, Signal::More)
+            onward
         }
         Case::Deduced(e) => {
             if follow(tables, dim, darts, j, e).0 == Session::NO_LINK {
                 tied(tables, ends, dim, darts, j, b, e);
-                comes_to(j, c, Signal::More)
+                onward
             } else {
                 comes_to(j, c, Signal::Refused(14))
             }
@@ -303,7 +303,7 @@ pub fn stand_at(ends: &[u16]) -> Stand
     }
 }
 
-// The run from a stand: the ends are lent, so that no step copies them.
+// The same from a stand: the ends are lent, so that no step copies them.
 pub fn run(tables: &mut [u16], dim: usize, darts: usize, s: Stand, c: Cursor, page: &[u8]) -> Turned
     requires { ⌜ Ready dim darts s c (now tables) (now page) ⌝ }
     ensures { λ r. ⌜ Runs dim darts s c (now (tables .entry)) (now (page .entry)) r (now (tables .exit)) ⌝ }

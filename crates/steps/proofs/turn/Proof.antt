@@ -32,41 +32,38 @@ mul-t18 c = let l = ready-limits _ _ _ _ _ _ (c .before .before .before .before 
 slice-read-t20 : tie.Need-slice-read-t20
 slice-read-t20 c = let l = ready-limits _ _ _ _ _ _ (c .before .before .before .before .before .before .before .pre .0) in omega (arith, ready-eight _ _ _ _ _ _ (c .before .before .before .before .before .before .before .pre .0))
 
+comes-to-requires-2 : tie.Need-comes-to-requires-2
+comes-to-requires-2 c κs = search needs
+
 partner-requires : tie.Need-partner-requires
-partner-requires c κs = (ready-limits _ _ _ _ _ _ (c .before .before .before .before .before .before .before .before .pre .0), c .before .before .if1 .left)
+partner-requires c κs = (ready-limits _ _ _ _ _ _ (c .before .before .before .before .before .before .before .before .before .pre .0), c .before .before .before .if1 .left)
 
 enum-told : tie.Need-enum-told
 enum-told c = search needs
 
 passed-requires : tie.Need-passed-requires
 passed-requires c κs =
-    let v = served _ _ _ _ _ _ (c .before .before .before .before .before .before .before .before .before .before .before .before .pre .0) _ (c .before .before .before .before .before .before .before .lowest .ensures) (c .before .before .before .before .before .before .if1 .left) in
+    let v = served _ _ _ _ _ _ (c .before .before .before .before .before .before .before .before .before .before .before .before .before .pre .0) _ (c .before .before .before .before .before .before .before .before .lowest .ensures) (c .before .before .before .before .before .before .before .if1 .left) in
     let l = v .limits in
     (v .eight, omega arith, omega arith)
 
-comes-to-requires-2 : tie.Need-comes-to-requires-2
-comes-to-requires-2 c κs = search needs
-
-enum-known-case : tie.Need-enum-known-case
-enum-known-case c = search needs
+enum-known-e : tie.Need-enum-known-e
+enum-known-e c = search needs
 
 follow-requires : tie.Need-follow-requires
-follow-requires c κs = (ready-limits _ _ _ _ _ _ (c .before .before .before .before .before .before .before .before .before .before .before .before .before .pre .0), c .before .before .before .before .before .before .before .if1 .left)
+follow-requires c κs = (ready-limits _ _ _ _ _ _ (c .before .before .before .before .before .before .before .before .before .before .before .before .before .before .pre .0), c .before .before .before .before .before .before .before .before .if1 .left)
 
 tied-requires : tie.Need-tied-requires
 tied-requires c κs =
-    let y = c .before .before .before .before .before .before .before .before .before .before .before .before .before .before .before .before .before .before .pre .0 in
-    let low = c .before .before .before .before .before .before .before .before .before .before .before .before .before .lowest .ensures in
-    let h = c .before .before .before .before .before .before .before .before .before .before .before .before .if1 .left in
+    let y = c .before .before .before .before .before .before .before .before .before .before .before .before .before .before .before .before .before .before .before .pre .0 in
+    let low = c .before .before .before .before .before .before .before .before .before .before .before .before .before .before .lowest .ensures in
+    let h = c .before .before .before .before .before .before .before .before .before .before .before .before .before .if1 .left in
     let v = served _ _ _ _ _ _ y _ low h in
-    let q = deduced-small _ _ _ _ _ _ y _ low h _ (c .before .before .before .before .before .before .before .before .before .partner .ensures) _ (c .before .before .before .before .before .before .before .case .given .1) in
+    let q = deduced-small _ _ _ _ _ _ y _ low h _ (c .before .before .before .before .before .before .before .before .before .partner .ensures) _ (c .before .before .before .before .before .before .before .e .given .1) in
     (v .limits, v .eight, v .ranked, omega arith, q)
 
 comes-to-requires-3 : tie.Need-comes-to-requires-3
 comes-to-requires-3 c κs = search needs
-
-comes-to-requires-4 : tie.Need-comes-to-requires-4
-comes-to-requires-4 c κs = search needs
 
 enum-told-2 : tie.Need-enum-told-2
 enum-told-2 c = search needs
@@ -76,9 +73,9 @@ take-symbol-requires c κs = search needs
 
 by-symbol-requires : tie.Need-by-symbol-requires
 by-symbol-requires c κs =
-    let y = c .before .before .before .before .before .before .before .before .before .before .before .before .before .before .pre .0 in
-    let low = c .before .before .before .before .before .before .before .before .before .lowest .ensures in
-    let h = c .before .before .before .before .before .before .before .before .if1 .left in
+    let y = c .before .before .before .before .before .before .before .before .before .before .before .before .before .before .before .pre .0 in
+    let low = c .before .before .before .before .before .before .before .before .before .before .lowest .ensures in
+    let h = c .before .before .before .before .before .before .before .before .before .if1 .left in
     (served _ _ _ _ _ _ y _ low h, asks _ _ _ _ _ _ y _ low h _ (c .before .before .before .before .before .partner .ensures) (c .before .before .before .enum-told2 .given .1))
 
 same-length-2 : tie.Need-same-length-2
@@ -90,9 +87,9 @@ same-length-3 c = search needs
 returns-2 : tie.Need-returns-2
 returns-2 c =
     let low = c .before .before .before .before .before .before .before .before .before .before .before .lowest .ensures in
-    let x = c .before .before .before .passed .ensures in
-    rw (c .comes-to2 .ensures)
-    (turn-known _ _ _ _ _ _ (c .before .before .before .before .before .before .before .before .before .before .before .before .before .before .before .before .pre .0) _ low (c .before .before .before .before .before .before .before .before .before .before .if1 .left) _ (c .before .before .before .before .before .before .before .partner .ensures) (c .before .before .before .before .before .enum-told .given .1) _ x, rw x (emptied-passed _ _ _ (low .emptied)))
+    let x = c .before .before .passed .ensures in
+    rw (c .before .before .before .before .before .before .before .before .comes-to2 .ensures)
+    (turn-known _ _ _ _ _ _ (c .before .before .before .before .before .before .before .before .before .before .before .before .before .before .before .before .pre .0) _ low (c .before .before .before .before .before .before .before .before .before .before .if1 .left) _ (c .before .before .before .before .before .before .partner .ensures) (c .before .before .before .before .enum-told .given .1) _ x, rw x (emptied-passed _ _ _ (low .emptied)))
 
 same-length-4 : tie.Need-same-length-4
 same-length-4 c = search needs
@@ -103,9 +100,9 @@ same-length-5 c = search needs
 returns-3 : tie.Need-returns-3
 returns-3 c =
     let low = c .before .before .before .before .before .before .before .before .before .before .before .before .before .before .before .before .before .before .before .lowest .ensures in
-    let x = c .before .before .before .before .before .tied .ensures in
-    rw (c .comes-to3 .ensures)
-    (turn-tied _ _ _ _ _ _ (c .before .before .before .before .before .before .before .before .before .before .before .before .before .before .before .before .before .before .before .before .before .before .before .before .pre .0) _ low (c .before .before .before .before .before .before .before .before .before .before .before .before .before .before .before .before .before .before .if1 .left) _ (c .before .before .before .before .before .before .before .before .before .before .before .before .before .before .before .partner .ensures) _ (c .before .before .before .before .before .before .before .before .before .before .before .before .before .case .given .1) _ (c .before .before .before .before .before .before .before .before .before .before .follow .ensures) (c .before .before .before .before .before .before .before .before .if2 .taken) _ _ x, rw (x .ends) (emptied-passed _ _ _ (low .emptied)))
+    let x = c .before .before .before .before .tied .ensures in
+    rw (c .before .before .before .before .before .before .before .before .before .before .before .before .before .before .before .before .comes-to2 .ensures)
+    (turn-tied _ _ _ _ _ _ (c .before .before .before .before .before .before .before .before .before .before .before .before .before .before .before .before .before .before .before .before .before .before .before .before .pre .0) _ low (c .before .before .before .before .before .before .before .before .before .before .before .before .before .before .before .before .before .before .if1 .left) _ (c .before .before .before .before .before .before .before .before .before .before .before .before .before .before .partner .ensures) _ (c .before .before .before .before .before .before .before .before .before .before .before .before .e .given .1) _ (c .before .before .before .before .before .before .before .before .before .follow .ensures) (c .before .before .before .before .before .before .before .if2 .taken) _ _ x, rw (x .ends) (emptied-passed _ _ _ (low .emptied)))
 
 same-length-6 : tie.Need-same-length-6
 same-length-6 c = search needs
@@ -115,9 +112,9 @@ same-length-7 c = search needs
 
 returns-4 : tie.Need-returns-4
 returns-4 c =
-    let low = c .before .before .before .before .before .before .before .before .before .before .before .before .lowest .ensures in
-    rw (c .comes-to4 .ensures)
-    (turn-14 _ _ _ _ _ _ (c .before .before .before .before .before .before .before .before .before .before .before .before .before .before .before .before .before .pre .0) _ low (c .before .before .before .before .before .before .before .before .before .before .before .if1 .left) _ (c .before .before .before .before .before .before .before .before .partner .ensures) _ (c .before .before .before .before .before .before .case .given .1) _ (c .before .before .before .follow .ensures) (c .before .if2 .left), low .emptied)
+    let low = c .before .before .before .before .before .before .before .before .before .before .before .before .before .lowest .ensures in
+    rw (c .comes-to3 .ensures)
+    (turn-14 _ _ _ _ _ _ (c .before .before .before .before .before .before .before .before .before .before .before .before .before .before .before .before .before .before .pre .0) _ low (c .before .before .before .before .before .before .before .before .before .before .before .before .if1 .left) _ (c .before .before .before .before .before .before .before .before .partner .ensures) _ (c .before .before .before .before .before .before .e .given .1) _ (c .before .before .before .follow .ensures) (c .before .if2 .left), low .emptied)
 
 same-length-8 : tie.Need-same-length-8
 same-length-8 c = search needs
@@ -128,7 +125,7 @@ same-length-9 c = search needs
 returns-5 : tie.Need-returns-5
 returns-5 c =
     let x = c .before .before .before .before .by-symbol .ensures in
-    (turn-asked _ _ _ _ _ _ (c .before .before .before .before .before .before .before .before .before .before .before .before .before .before .before .before .before .before .before .pre .0) _ (c .before .before .before .before .before .before .before .before .before .before .before .before .before .before .lowest .ensures) (c .before .before .before .before .before .before .before .before .before .before .before .before .before .if1 .left) _ (c .before .before .before .before .before .before .before .before .before .before .partner .ensures) (c .before .before .before .before .before .before .before .before .enum-told2 .given .1) _ (c .before .before .before .before .before .before .before .take-symbol .ensures) _ _ (x .0), x .1)
+    (turn-asked _ _ _ _ _ _ (c .before .before .before .before .before .before .before .before .before .before .before .before .before .before .before .before .before .before .before .before .pre .0) _ (c .before .before .before .before .before .before .before .before .before .before .before .before .before .before .before .lowest .ensures) (c .before .before .before .before .before .before .before .before .before .before .before .before .before .before .if1 .left) _ (c .before .before .before .before .before .before .before .before .before .before .partner .ensures) (c .before .before .before .before .before .before .before .before .enum-told2 .given .1) _ (c .before .before .before .before .before .before .before .take-symbol .ensures) _ _ (x .0), x .1)
 
 pub turn-spec : {M : Type 1} → statement M
 turn-spec =
@@ -141,15 +138,14 @@ turn-spec =
     add-t17
     mul-t18
     slice-read-t20
+    comes-to-requires-2
     partner-requires
     enum-told
     passed-requires
-    comes-to-requires-2
-    enum-known-case
+    enum-known-e
     follow-requires
     tied-requires
     comes-to-requires-3
-    comes-to-requires-4
     enum-told-2
     take-symbol-requires
     by-symbol-requires
