@@ -1,4 +1,4 @@
--- Laws of the two classes: after a flood from dart 0 by all ranks every dart has one, by the number of links, and if any two classes do, these do.
+-- Laws of the two classes: where all darts are reached from dart 0 each has one, by the number of links, and if any two classes do, these do.
 -- Rests on Floods and the rules' Orbits and Cells.
 use Prim.Native.Nat.{ℕ, zero, suc, _+_, _*_, _-_, _/_, _%_, _≤_, _<_}
 use mathlib.Core.Path.{_≡_, refl, ap, sym, _∙_}
@@ -11,14 +11,14 @@ use lib.ListN.{getD}
 use lib.Dec.{eqb}
 use borrow.Author.Tests.{eqb-true, eqb-false, eq-eqb, ne-eqb}
 use Rattle.rules.specs.Lists.{first}
-use Rattle.rules.specs.Map.{size, link, Reached, allRanks, allBut, Valid, Connected}
+use Rattle.rules.specs.Map.{size, link, allRanks, Valid}
 use Rattle.rules.specs.Report.{orientable}
 use Rattle.rules.proofs.Lists.{first-le, first-passes, first-before}
 use Rattle.rules.proofs.Places.{nth-rank, nth-dart, nth-below, rank-nth, dart-nth}
 use Rattle.rules.proofs.Orbits.{valid-closed, reached-below}
 use Rattle.rules.proofs.Cells.{Orientable, orientable-sound, orientable-complete}
-use Rattle.report.specs.Flood.{Marked, Linked, Traced, Flooded, alike}
-use Rattle.report.proofs.Floods.{linked-two, reached-marked, linked-reached}
+use Rattle.report.specs.Flood.{Marked, Linked, Spanned, alike}
+use Rattle.report.proofs.Floods.{linked-two, linked-reached}
 
 -- the class that a dart has by the number of links from a dart of class b
 turn : ℕ → Bool → Bool
@@ -54,63 +54,49 @@ pub alike-no : (N n : ℕ) (t w : List ℕ) (k x : ℕ) → x ≡ link N n t (k 
 unfolding alike
 alike-no N n t w k x e h = rw (← e) (ne-eqb (getD w (k % n) 0) (getD w x 0) h)
 
--- every rank is kept if the one left out is past N
-all-kept : (N i : ℕ) → i ≤ N → allBut (N + 1) i ≡ true
-unfolding allBut
-all-kept N i h = rw (ne-eqb i (N + 1) (omega arith))
-
-reached-kept : {N n : ℕ} {t : List ℕ} {d e : ℕ} → Reached allRanks N n t d e → Reached (allBut (N + 1)) N n t d e
-reached-kept Reached.here = Reached.here
-reached-kept {N} (Reached.onward i h k r) = Reached.onward i h (all-kept N i h) (reached-kept r)
-
--- any classes that do agree with the numbers of links
-linked-class : {keep : ℕ → Bool} {N n : ℕ} {t : List ℕ} {s d m : ℕ} (v : Valid N n t) (O : Orientable N n t) → s < n → Linked keep N n t s d m → O .class d ≡ turn m (O .class s)
+-- any classes that do agree with the numbers of links from a dart of class 0
+linked-class : {keep : ℕ → Bool} {N n : ℕ} {t : List ℕ} {s d m : ℕ} (v : Valid N n t) (O : Orientable N n t) → s < n → Linked keep N n t s 0 d m → O .class d ≡ turn m (O .class s)
 unfolding turn
 linked-class v O h Linked.here = refl
-linked-class {s = s} v O h (Linked.onward {e} {m} i hi k r) = O .other i e hi (reached-below (valid-closed v) h (linked-reached r)) ∙ (ap not (linked-class v O h r) ∙ sym (turn-next m (O .class s) (linked-two r)))
+linked-class {s = s} v O h (Linked.onward {e} {m} i hi k r) = O .other i e hi (reached-below (valid-closed v) h (linked-reached r)) ∙ (ap not (linked-class v O h r) ∙ sym (turn-next m (O .class s) (linked-two (omega arith) r)))
 
-module _ {N n tail : ℕ} {t w w' : List ℕ} (v : Valid N n t) (h1 : 1 ≤ n) (K : Connected N n t 0) (T : Traced (allBut (N + 1)) N n t 1 w) (F : Flooded (allBut (N + 1)) N n t 0 0 tail w w') where
-  marked-all : (d : ℕ) → d < n → Marked w' d
-  marked-all d h = reached-marked v (F .grown .queue) (F .settled) (omega arith) (F .started) (reached-kept (K .reached d h))
-
-  linked-all : (d : ℕ) → d < n → Linked (allBut (N + 1)) N n t 0 d (getD w' d 0)
-  linked-all d h =
-      let (e, he, r) = F .grown .traced 1 (omega arith) T d h (marked-all d h) in
-      let z : e ≡ 0 = omega arith in
-      rw z at r
+-- every dart has a class
+module _ {N n : ℕ} {t w : List ℕ} (v : Valid N n t) (h1 : 1 ≤ n) (S : Spanned N n t w) (all : (d : ℕ) → d < n → Marked w d) where
+  linked-all : (d : ℕ) → d < n → Linked allRanks N n t 0 0 d (getD w d 0)
+  linked-all d h = S .linked d h (all d h)
 
   -- no link stays within a class: the classes do
-  apart-orientable : first (alike N n t w') (size N n) ≡ size N n → Orientable N n t
+  apart-orientable : first (alike N n t w) (size N n) ≡ size N n → Orientable N n t
   unfolding alike
-  apart-orientable q = record { class = λ d. eqb (getD w' d 0) 1; other = other }
+  apart-orientable q = record { class = λ d. eqb (getD w d 0) 1; other = other }
     where
-      other : (i d : ℕ) → i ≤ N → d < n → eqb (getD w' (link N n t i d) 0) 1 ≡ not (eqb (getD w' d 0) 1)
+      other : (i d : ℕ) → i ≤ N → d < n → eqb (getD w (link N n t i d) 0) 1 ≡ not (eqb (getD w d 0) 1)
       other i d hi hd =
-          let a = first-before (alike N n t w') (size N n) (i * n + d) (omega (arith, nth-below N n i d hi hd)) in
+          let a = first-before (alike N n t w) (size N n) (i * n + d) (omega (arith, nth-below N n i d hi hd)) in
           let b = rw (rank-nth n i d hd, dart-nth n i d hd) at a in
-          other-one (getD w' d 0) (getD w' (link N n t i d) 0) (linked-two (linked-all d hd)) (linked-two (linked-all (link N n t i d) (v .inside i d hi hd))) (eqb-false (getD w' d 0) (getD w' (link N n t i d) 0) b)
+          other-one (getD w d 0) (getD w (link N n t i d) 0) (linked-two (omega arith) (linked-all d hd)) (linked-two (omega arith) (linked-all (link N n t i d) (v .inside i d hi hd))) (eqb-false (getD w d 0) (getD w (link N n t i d) 0) b)
 
   -- a link stays within a class: no classes do
-  alike-refutes : first (alike N n t w') (size N n) < size N n → Orientable N n t → ⊥
+  alike-refutes : first (alike N n t w) (size N n) < size N n → Orientable N n t → ⊥
   unfolding alike
-  alike-refutes q O = same (first (alike N n t w') (size N n)) q (first-passes (alike N n t w') (size N n) q)
+  alike-refutes q O = same (first (alike N n t w) (size N n)) q (first-passes (alike N n t w) (size N n) q)
     where
-      joined : (i d : ℕ) → i ≤ N → d < n → getD w' d 0 ≡ getD w' (link N n t i d) 0 → ⊥
+      joined : (i d : ℕ) → i ≤ N → d < n → getD w d 0 ≡ getD w (link N n t i d) 0 → ⊥
       joined i d hi hd e =
           let a = linked-class v O (omega arith) (linked-all d hd) in
           let b = linked-class v O (omega arith) (linked-all (link N n t i d) (v .inside i d hi hd)) in
           not-own (O .class d) (a ∙ (ap (λ (x : ℕ). turn x (O .class 0)) e ∙ (sym b ∙ O .other i d hi hd)))
 
-      same : (k : ℕ) → k < size N n → alike N n t w' k ≡ true → ⊥
-      same k h e = joined (k / n) (k % n) (nth-rank N n k h1 h) (nth-dart n k h1) (eqb-true (getD w' (k % n) 0) (getD w' (link N n t (k / n) (k % n)) 0) e)
+      same : (k : ℕ) → k < size N n → alike N n t w k ≡ true → ⊥
+      same k h e = joined (k / n) (k % n) (nth-rank N n k h1 h) (nth-dart n k h1) (eqb-true (getD w (k % n) 0) (getD w (link N n t (k / n) (k % n)) 0) e)
 
-  pub classes-tell : (r k : ℕ) → k ≡ size N n → r ≡ first (alike N n t w') (size N n) → eqb r k ≡ orientable N n t
-  classes-tell r k s e = rw (e, s) (go (ℕ-discrete (first (alike N n t w') (size N n)) (size N n)))
+  pub classes-tell : (r k : ℕ) → k ≡ size N n → r ≡ first (alike N n t w) (size N n) → eqb r k ≡ orientable N n t
+  classes-tell r k s e = rw (e, s) (go (ℕ-discrete (first (alike N n t w) (size N n)) (size N n)))
     where
-      never : first (alike N n t w') (size N n) < size N n → (b : Bool) → orientable N n t ≡ b → false ≡ b
+      never : first (alike N n t w) (size N n) < size N n → (b : Bool) → orientable N n t ≡ b → false ≡ b
       never h false q = refl
       never h true q = absurd (alike-refutes h (orientable-sound (valid-closed v) h1 q))
 
-      go : Dec (first (alike N n t w') (size N n) ≡ size N n) → eqb (first (alike N n t w') (size N n)) (size N n) ≡ orientable N n t
-      go (yes q) = eq-eqb (first (alike N n t w') (size N n)) (size N n) q ∙ sym (orientable-complete (valid-closed v) h1 (apart-orientable q))
-      go (no q) = ne-eqb (first (alike N n t w') (size N n)) (size N n) q ∙ never (omega (arith, first-le (alike N n t w') (size N n))) (orientable N n t) refl
+      go : Dec (first (alike N n t w) (size N n) ≡ size N n) → eqb (first (alike N n t w) (size N n)) (size N n) ≡ orientable N n t
+      go (yes q) = eq-eqb (first (alike N n t w) (size N n)) (size N n) q ∙ sym (orientable-complete (valid-closed v) h1 (apart-orientable q))
+      go (no q) = ne-eqb (first (alike N n t w) (size N n)) (size N n) q ∙ never (omega (arith, first-le (alike N n t w) (size N n))) (orientable N n t) refl

@@ -1,23 +1,23 @@
 -- Laws of the report's counts, one turn of a loop at a time: a dart leads its cell if no flood before it came there. Rests on Floods and the rules' Orbits.
 use Prim.Native.Nat.{ℕ, suc, _+_, _*_, _/_, _%_, _≤_, _<_}
 use mathlib.Core.Path.{_≡_, refl, ap, sym, _∙_}
-use mathlib.Core.Logic.{_≢_}
+use mathlib.Core.Logic.{_≢_, _⊎_, inl, inr}
 use mathlib.Core.Bool.{Bool, true, false, not, cond}
 use mathlib.Core.List.{List}
 use native.Mathlib.Omega.{arith}
 use native.Mathlib.Nat.{mul-le-mul}
-use native.Mathlib.Decide.{ℕ-discrete, decLt, decLe}
+use native.Mathlib.Decide.{ℕ-discrete, decLe}
 use lib.ListN.{length, getD, set, replicate, length-set}
 use lib.Seq.{ext-getD, getD-set-same, getD-set-other}
 use lib.Dec.{eqb, leb}
 use borrow.Author.Tests.{eq-eqb, ne-eqb, le-leb, lt-leb}
 use Rattle.rules.specs.Lists.{listOf, someBelow, countBelow}
-use Rattle.rules.specs.Map.{mark, size, link, blank, allBut, Valid, Limits, reaches}
+use Rattle.rules.specs.Map.{mark, size, link, blank, Reached, allBut, Valid, Limits, reaches}
 use Rattle.rules.specs.Report.{leads, cells, freePairs, cellCounts}
 use Rattle.rules.proofs.Lists.{length-listOf, getD-listOf, getD-same, some-below, below-some}
-use Rattle.rules.proofs.Orbits.{valid-closed, reached-sym, reaches-reached, reached-reaches}
-use Rattle.report.specs.Flood.{Marked, Queue, Traced, Around, Settled, Flooded}
-use Rattle.report.proofs.Floods.{grown-marked, settled-grown, reached-marked, linked-reached, queue-blanked, traced-blanked}
+use Rattle.rules.proofs.Orbits.{valid-closed, reached-trans, reached-sym, reaches-reached, reached-reaches}
+use Rattle.report.specs.Flood.{Marked, Queue, Linked, Settled, Longer, Flooded}
+use Rattle.report.proofs.Floods.{longer-marked, reached-marked, linked-reached, flooded-longer, flooded-started, flooded-traced, flooded-settled, queue-blanked, none-blanked}
 
 -- one number more below the bound
 pub count-yes : (f : ℕ → Bool) (k : ℕ) → f k ≡ true → countBelow (k + 1) f ≡ countBelow k f + 1
@@ -55,7 +55,7 @@ free-end N n t k free e c = c ∙ ap (λ (x : ℕ). countBelow x (isFree N n t))
 pub record Counted (N n : ℕ) (t : List ℕ) (i d tail found : ℕ) (w : List ℕ) : Type 0 where
   pub queue : Queue n tail w
   pub settled : Settled (allBut i) N n t 0 tail w
-  pub traced : Traced (allBut i) N n t d w
+  pub traced : (x : ℕ) → x < n → Marked w x → (e : ℕ) × (e < d) × Reached (allBut i) N n t e x
   pub passed : (x : ℕ) → x < d → Marked w x
   pub count : found ≡ countBelow d (leads N n t i)
   pub few : found ≤ d
@@ -64,7 +64,7 @@ pub counted-start : (N n : ℕ) (t : List ℕ) (i : ℕ) (w w' : List ℕ) → w
 counted-start N n t i w w' e = record {
   queue = queue-blanked n w w' e;
   settled = λ p hf ht. absurd (omega arith);
-  traced = traced-blanked n w w' e;
+  traced = λ x h m. absurd (none-blanked n w w' e x h m);
   passed = λ x h. absurd (omega arith);
   count = sym (count-none (leads N n t i));
   few = omega arith;
@@ -79,7 +79,7 @@ module _ {N n : ℕ} {t : List ℕ} (v : Valid N n t) {i d tail found : ℕ} {w 
   leads-no m =
       let (e, he, r) = R .traced d hd m in
       let C = valid-closed v in
-      rw (below-some d met e he (reached-reaches (allBut i) N n t C d e hd (reached-sym C (omega arith) (linked-reached r))))
+      rw (below-some d met e he (reached-reaches (allBut i) N n t C d e hd (reached-sym C (omega arith) r)))
 
   leads-yes : getD w d 0 ≡ mark → leads N n t i d ≡ true
   unfolding leads
@@ -109,21 +109,22 @@ module _ {N n : ℕ} {t : List ℕ} (v : Valid N n t) {i d tail found : ℕ} {w 
     few = omega (arith, R .few);
   }
 
-  pub counted-new : {tail' : ℕ} {w' : List ℕ} → getD w d 0 ≡ mark → Flooded (allBut i) N n t d tail tail' w w' → Counted N n t i (d + 1) tail' (found + 1) w'
-  counted-new {tail'} {w'} u F =
-      let G = F .grown in
-      record {
-        queue = G .queue;
-        settled = λ p hf ht. settled-all p ht (decLt p tail);
-        traced = G .traced (d + 1) (omega arith) (λ x h y. let (e, he, r) = R .traced x h y in (e, omega arith, r));
-        passed = passed-next w' (λ x h. grown-marked G (omega arith) (R .passed x h)) (F .started);
-        count = ap (λ (x : ℕ). x + 1) (R .count) ∙ sym (count-yes (leads N n t i) d (leads-yes u));
-        few = omega (arith, R .few);
-      }
+  pub counted-new : {tail' : ℕ} {w' : List ℕ} → getD w d 0 ≡ mark → Flooded (allBut i) N n t d 0 tail tail' w w' → Counted N n t i (d + 1) tail' (found + 1) w'
+  counted-new {tail'} {w'} u F = record {
+    queue = L .queue;
+    settled = flooded-settled (R .queue) hd (omega arith) F v (R .settled);
+    traced = λ x h y. from x (flooded-traced (R .queue) hd (omega arith) F x h y);
+    passed = passed-next w' (λ x h. longer-marked L (omega arith) (R .passed x h)) (flooded-started (R .queue) hd (omega arith) F);
+    count = ap (λ (x : ℕ). x + 1) (R .count) ∙ sym (count-yes (leads N n t i) d (leads-yes u));
+    few = omega (arith, R .few);
+  }
     where
-      settled-all : (p : ℕ) → p < tail' → Dec (p < tail) → Around (allBut i) N n t (getD w' (n + p) 0) w'
-      settled-all p ht (yes h) = settled-grown v (R .queue) (F .grown) (omega arith) (R .settled) p (omega arith) h
-      settled-all p ht (no h) = F .settled p (omega arith) ht
+      L : Longer n tail tail' w w'
+      L = flooded-longer (R .queue) hd (omega arith) F
+
+      from : (x : ℕ) → ((e : ℕ) × (e < n) × Marked w e × Linked (allBut i) N n t e (getD w e 0) x (getD w' x 0)) ⊎ Linked (allBut i) N n t d 0 x (getD w' x 0) → (e : ℕ) × (e < d + 1) × Reached (allBut i) N n t e x
+      from x (inl (e, he, m, r)) = let (f, hf, s) = R .traced e he m in (f, omega arith, reached-trans s (linked-reached r))
+      from x (inr r) = (d, omega arith, linked-reached r)
 
 pub counted-end : {N n : ℕ} {t : List ℕ} {i d tail found : ℕ} {w : List ℕ} → Counted N n t i d tail found w → d ≡ n → found ≡ cells N n t i
 unfolding cells

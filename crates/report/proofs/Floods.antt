@@ -2,20 +2,20 @@
 -- Rests on the rules' Lists and Orbits.
 use Prim.Native.Nat.{ℕ, suc, _+_, _*_, _-_, _≤_, _<_}
 use mathlib.Core.Path.{_≡_, refl, sym, _∙_}
-use mathlib.Core.Logic.{_≢_}
+use mathlib.Core.Logic.{_≢_, _⊎_, inl, inr}
 use mathlib.Core.Bool.{Bool, true, false, not, cond}
 use mathlib.Core.List.{List}
 use native.Mathlib.Omega.{arith}
-use native.Mathlib.Decide.{ℕ-discrete}
+use native.Mathlib.Decide.{ℕ-discrete, decLt}
 use lib.ListN.{length, getD, set, replicate, drop, length-replicate, List·getD-append, length-set, getD-replicate}
 use lib.Seq.{getD-set-same, getD-set-other, drop-set-lt}
-use lib.Dec.{eqb}
-use borrow.Author.Tests.{eqb-true, eqb-false, eq-eqb, ne-eqb}
+use lib.Dec.{eqb, ltb, leb}
+use borrow.Author.Tests.{eqb-true, eqb-false, eq-eqb, ne-eqb, leb-true, le-leb, ltb-true, lt-ltb}
 use Rattle.rules.specs.Map.{mark, link, blank, Reached, allBut, Valid}
-use Rattle.rules.proofs.Lists.{not-both, pigeonhole}
+use Rattle.rules.proofs.Lists.{and-left, and-right, not-both, pigeonhole}
 use Rattle.rules.proofs.Places.{blank-room, drop-blank}
 use Rattle.rules.proofs.Orbits.{valid-closed, reached-below}
-use Rattle.report.specs.Flood.{Marked, enteredRoom, enteredTail, Queue, Linked, Traced, Around, Settled, Grown, Flooded}
+use Rattle.report.specs.Flood.{Marked, enteredRoom, enteredTail, Queue, Linked, between, Around, Settled, Longer, Grown, Flooded}
 
 -- a dart with no mark is not in the queue
 fresh-new : {n tail d : ℕ} {w : List ℕ} → Queue n tail w → getD w d 0 ≡ mark → (p : ℕ) → p < tail → getD w (n + p) 0 ≡ d → ⊥
@@ -98,111 +98,168 @@ module _ (n tail d m : ℕ) (w : List ℕ) (hd : d < n) (ht : tail < n) (room : 
             let (p, k, z) = Q .entered x h (λ z. y (class-old x h e ∙ z)) in
             (p, omega arith, dart-old p k ∙ z)
 
-module _ {keep : ℕ → Bool} {N n : ℕ} {t : List ℕ} where
-  pub grown-refl : {least tail : ℕ} {w : List ℕ} → Queue n tail w → Grown keep N n t least tail tail w w
-  grown-refl Q = record { queue = Q; longer = omega arith; past = refl; kept = λ d h m. refl; same = λ p h. refl; traced = λ b h T. T }
+-- what was there stays
+pub longer-refl : {n tail : ℕ} {w : List ℕ} → Queue n tail w → Longer n tail tail w w
+longer-refl Q = record { queue = Q; longer = omega arith; past = refl; kept = λ d h m. refl; same = λ p h. refl }
 
-  pub grown-marked : {least tail tail' d : ℕ} {w w' : List ℕ} → Grown keep N n t least tail tail' w w' → d < n → Marked w d → Marked w' d
-  grown-marked {d = d} G h m = λ z. m (sym (G .kept d h m) ∙ z)
+pub longer-marked : {n tail tail' d : ℕ} {w w' : List ℕ} → Longer n tail tail' w w' → d < n → Marked w d → Marked w' d
+longer-marked {d = d} L h m = λ z. m (sym (L .kept d h m) ∙ z)
 
-  pub grown-class : {least tail tail' d : ℕ} {w w' : List ℕ} → Grown keep N n t least tail tail' w w' → d < n → getD w d 0 < 2 → getD w' d 0 < 2
-  grown-class {d = d} G h c = rw (G .kept d h (omega arith)) c
+pub longer-trans : {n a b c : ℕ} {w w' w'' : List ℕ} → Longer n a b w w' → Longer n b c w' w'' → Longer n a c w w''
+longer-trans L K = record {
+  queue = K .queue;
+  longer = omega (arith, L .longer, K .longer);
+  past = K .past ∙ L .past;
+  kept = λ d h m. K .kept d h (longer-marked L h m) ∙ L .kept d h m;
+  same = λ p h. K .same p (omega (arith, L .longer)) ∙ L .same p h;
+}
 
-  pub grown-trans : {least a b c : ℕ} {w w' w'' : List ℕ} → Grown keep N n t least a b w w' → Grown keep N n t 0 b c w' w'' → Grown keep N n t least a c w w''
-  grown-trans G H = record {
-    queue = H .queue;
-    longer = omega (arith, G .longer, H .longer);
-    past = H .past ∙ G .past;
-    kept = λ d h m. H .kept d h (grown-marked G h m) ∙ G .kept d h m;
-    same = λ p h. H .same p (omega (arith, G .longer)) ∙ G .same p h;
-    traced = λ b h T. H .traced b (omega arith) (G .traced b h T);
-  }
+-- a dart has come up with a class: it is marked, and no other is new
+record Entered (n d class tail tail' : ℕ) (w w' : List ℕ) : Type 0 where
+  on : Longer n tail tail' w w'
+  marked : Marked w' d
+  only : (x : ℕ) → x < n → Marked w' x → Marked w x ⊎ ((x ≡ d) × (getD w' x 0 ≡ class))
 
-  -- a dart with a class comes up; where the old marks are traced so is it
-  module _ {least tail d m : ℕ} {w : List ℕ} (Q : Queue n tail w) (hd : d < n) (hm : m < 2) (source : (bound : ℕ) → least ≤ bound → Traced keep N n t bound w → (e : ℕ) × (e < bound) × Linked keep N n t e d m) where
-    grown-placed : getD w d 0 ≡ mark → Grown keep N n t least tail (tail + 1) w (placed n tail d m w)
-    grown-placed u = record {
+module _ {n tail d m : ℕ} {w : List ℕ} (Q : Queue n tail w) (hd : d < n) (hm : m < 2) where
+  entered-placed : getD w d 0 ≡ mark → Entered n d m tail (tail + 1) w (placed n tail d m w)
+  entered-placed u = record {
+    on = record {
       queue = queue-placed n tail d m w hd ht (Q .room) Q u hm;
       longer = omega arith;
       past = past-placed n tail d m w hd ht (Q .room);
-      kept = λ x h y. class-old n tail d m w hd ht (Q .room) x h (other x y);
+      kept = λ x h y. class-old n tail d m w hd ht (Q .room) x h (λ e. y (rw e u));
       same = λ p h. dart-old n tail d m w hd ht (Q .room) p h;
-      traced = λ b h T x hx y. from b h T x hx y (ℕ-discrete x d);
-    }
-      where
-        ht : tail < n
-        ht = tail-below Q hd u
-
-        other : (x : ℕ) → Marked w x → x ≢ d
-        other x y e = y (rw e u)
-
-        from : (b : ℕ) → least ≤ b → Traced keep N n t b w → (x : ℕ) → x < n → Marked (placed n tail d m w) x → Dec (x ≡ d) → (e : ℕ) × (e < b) × Linked keep N n t e x (getD (placed n tail d m w) x 0)
-        from b h T x hx y (yes e) = rw (e, class-new n tail d m w hd ht (Q .room)) (source b h T)
-        from b h T x hx y (no e) =
-            let q = class-old n tail d m w hd ht (Q .room) x hx e in
-            rw q (T x hx (λ z. y (q ∙ z)))
-
-    marked-placed : getD w d 0 ≡ mark → Marked (placed n tail d m w) d
-    marked-placed u z = let q = class-new n tail d m w hd (tail-below Q hd u) (Q .room) in omega arith
-
-    pub grown-enter : Grown keep N n t least tail (enteredTail w tail d) w (enteredRoom n w tail d m) × Marked (enteredRoom n w tail d m) d
-    unfolding enteredTail enteredRoom
-    grown-enter = go (eqb (getD w d 0) mark) refl
-      where
-        go : (b : Bool) → eqb (getD w d 0) mark ≡ b → Grown keep N n t least tail (cond b (tail + 1) tail) w (cond b (placed n tail d m w) w) × Marked (cond b (placed n tail d m w) w) d
-        go true q = let u = eqb-true (getD w d 0) mark q in (grown-placed u, marked-placed u)
-        go false q = (grown-refl Q, eqb-false (getD w d 0) mark q)
-
--- a number of links is told by 0 or 1
-pub linked-two : {keep : ℕ → Bool} {N n : ℕ} {t : List ℕ} {d e m : ℕ} → Linked keep N n t d e m → m < 2
-linked-two Linked.here = omega arith
-linked-two (Linked.onward i h k r) = omega arith
-
--- following the link of one rank
-module _ {N n : ℕ} {t : List ℕ} (v : Valid N n t) (skip rank : ℕ) {tail dart : ℕ} {w : List ℕ} (Q : Queue n tail w) (hr : rank ≤ N) (hd : dart < n) (h2 : getD w dart 0 < 2) where
-  abbrev Followed : ℕ → List ℕ → Type 0
-  Followed tail' w' = Grown (allBut skip) N n t 0 tail tail' w w' × (allBut skip rank ≡ true → Marked w' (link N n t rank dart))
-
-  pub follow-skip : rank ≡ skip → Followed tail w
-  unfolding allBut
-  follow-skip e = (grown-refl Q, λ k. absurd (not-both (not (eqb rank skip)) k (rw (eq-eqb rank skip e))))
-
-  pub follow-enter : (x tail' : ℕ) (w' : List ℕ) → rank ≢ skip → x ≡ link N n t rank dart → tail' ≡ enteredTail w tail x → w' ≡ enteredRoom n w tail x (1 - getD w dart 0) → Followed tail' w'
-  unfolding allBut
-  follow-enter x tail' w' k ex et ew = rw (et, ew, ex) (let (G, m) = grown-enter Q (v .inside rank dart hr hd) (omega arith) source in (G, λ _. m))
+    };
+    marked = λ z. let q = class-new n tail d m w hd ht (Q .room) in omega arith;
+    only = λ x h y. only x h y (ℕ-discrete x d);
+  }
     where
-      source : (bound : ℕ) → 0 ≤ bound → Traced (allBut skip) N n t bound w → (e : ℕ) × (e < bound) × Linked (allBut skip) N n t e (link N n t rank dart) (1 - getD w dart 0)
-      source b h T = let (e, he, r) = T dart hd (λ z. omega arith) in (e, he, Linked.onward rank hr (rw (ne-eqb rank skip k)) r)
+      ht : tail < n
+      ht = tail-below Q hd u
 
--- following those of all ranks, one turn of the loop at a time: those below i are done
-module _ {keep : ℕ → Bool} {N n : ℕ} {t : List ℕ} (v : Valid N n t) where
-  pub spread-next : {tail tail' dart i : ℕ} {w w' : List ℕ} → dart < n → i ≤ N → Grown keep N n t 0 tail tail' w w' → (keep i ≡ true → Marked w' (link N n t i dart))
-      → ((j : ℕ) → j < i → keep j ≡ true → Marked w (link N n t j dart)) → (j : ℕ) → j < i + 1 → keep j ≡ true → Marked w' (link N n t j dart)
-  spread-next {dart = dart} {i = i} {w' = w'} hd hi G m before j h k = go (ℕ-discrete j i)
+      only : (x : ℕ) → x < n → Marked (placed n tail d m w) x → Dec (x ≡ d) → Marked w x ⊎ ((x ≡ d) × (getD (placed n tail d m w) x 0 ≡ m))
+      only x h y (yes e) = inr ((e, rw (e, class-new n tail d m w hd ht (Q .room))))
+      only x h y (no e) = inl (λ z. y (class-old n tail d m w hd ht (Q .room) x h e ∙ z))
+
+  entry : Entered n d m tail (enteredTail w tail d) w (enteredRoom n w tail d m)
+  unfolding enteredTail enteredRoom
+  entry = go (eqb (getD w d 0) mark) refl
+    where
+      go : (b : Bool) → eqb (getD w d 0) mark ≡ b → Entered n d m tail (cond b (tail + 1) tail) w (cond b (placed n tail d m w) w)
+      go true q = entered-placed (eqb-true (getD w d 0) mark q)
+      go false q = record { on = longer-refl Q; marked = eqb-false (getD w d 0) mark q; only = λ x h y. inl y }
+
+-- linked through another dart, by more ranks, and to what a class leads
+pub linked-trans : {keep : ℕ → Bool} {N n : ℕ} {t : List ℕ} {d c e m f k : ℕ} → Linked keep N n t d c e m → Linked keep N n t e m f k → Linked keep N n t d c f k
+linked-trans r Linked.here = r
+linked-trans r (Linked.onward i h k s) = Linked.onward i h k (linked-trans r s)
+
+pub linked-wider : {keep keep' : ℕ → Bool} {N n : ℕ} {t : List ℕ} {d c e m : ℕ} → ((i : ℕ) → i ≤ N → keep i ≡ true → keep' i ≡ true) → Linked keep N n t d c e m → Linked keep' N n t d c e m
+linked-wider f Linked.here = Linked.here
+linked-wider f (Linked.onward i h k r) = Linked.onward i h (f i h k) (linked-wider f r)
+
+pub linked-two : {keep : ℕ → Bool} {N n : ℕ} {t : List ℕ} {d c e m : ℕ} → c < 2 → Linked keep N n t d c e m → m < 2
+linked-two l Linked.here = l
+linked-two l (Linked.onward i h k r) = omega arith
+
+pub linked-reached : {keep : ℕ → Bool} {N n : ℕ} {t : List ℕ} {d c e m : ℕ} → Linked keep N n t d c e m → Reached keep N n t d e
+linked-reached Linked.here = Reached.here
+linked-reached (Linked.onward i h k r) = Reached.onward i h k (linked-reached r)
+
+module _ {keep : ℕ → Bool} {N n : ℕ} {t : List ℕ} where
+  pub grown-refl : {tail : ℕ} {w : List ℕ} → Queue n tail w → Grown keep N n t tail tail w w
+  grown-refl Q = record { on = longer-refl Q; traced = λ d h m. (d, h, m, Linked.here) }
+
+  pub grown-trans : {a b c : ℕ} {w w' w'' : List ℕ} → Grown keep N n t a b w w' → Grown keep N n t b c w' w'' → Grown keep N n t a c w w''
+  grown-trans {w = w} {w'' = w''} G H = record { on = longer-trans (G .on) (H .on); traced = traced }
+    where
+      traced : (d : ℕ) → d < n → Marked w'' d → (e : ℕ) × (e < n) × Marked w e × Linked keep N n t e (getD w e 0) d (getD w'' d 0)
+      traced d h m =
+          let (e, he, m', r) = H .traced d h m in
+          let (f, hf, m'', s) = G .traced e he m' in
+          (f, hf, m'', linked-trans s r)
+
+  pub grown-wider : {keep' : ℕ → Bool} {tail tail' : ℕ} {w w' : List ℕ} → ((i : ℕ) → i ≤ N → keep i ≡ true → keep' i ≡ true) → Grown keep N n t tail tail' w w' → Grown keep' N n t tail tail' w w'
+  grown-wider f G = record { on = G .on; traced = λ d h m. let (e, he, m', r) = G .traced d h m in (e, he, m', linked-wider f r) }
+
+  -- following the link of one rank, as the code does
+  pub followed : {rank tail dart class tail' : ℕ} {w w' : List ℕ} → Valid N n t → Queue n tail w → rank ≤ N → keep rank ≡ true → dart < n → getD w dart 0 < 2 → class ≡ 1 - getD w dart 0
+      → tail' ≡ enteredTail w tail (link N n t rank dart) → w' ≡ enteredRoom n w tail (link N n t rank dart) class → Grown keep N n t tail tail' w w' × Marked w' (link N n t rank dart)
+  followed {rank} {tail} {dart} {class} {tail'} {w} {w'} v Q hr k hd h2 ec et ew = (record { on = E .on; traced = λ d h m. traced d h (E .only d h m) }, E .marked)
+    where
+      E : Entered n (link N n t rank dart) class tail tail' w w'
+      E = rw (et, ew) (entry Q (v .inside rank dart hr hd) (omega arith))
+
+      traced : (d : ℕ) → d < n → Marked w d ⊎ ((d ≡ link N n t rank dart) × (getD w' d 0 ≡ class)) → (e : ℕ) × (e < n) × Marked w e × Linked keep N n t e (getD w e 0) d (getD w' d 0)
+      traced d h (inl m) = (d, h, m, rw (E .on .kept d h m) Linked.here)
+      traced d h (inr (e, q)) = (dart, hd, λ z. omega arith, rw (q, e, ec) (Linked.onward rank hr k Linked.here))
+
+-- a dart's class stays, and so does the other one
+module _ {n tail tail' d : ℕ} {w w' : List ℕ} (L : Longer n tail tail' w w') (h : d < n) (h2 : getD w d 0 < 2) where
+  pub longer-class : getD w' d 0 < 2
+  longer-class = rw (L .kept d h (omega arith)) h2
+
+  pub longer-other : 1 - getD w d 0 ≡ 1 - getD w' d 0
+  longer-other = rw (L .kept d h (omega arith))
+
+-- the ranks kept by each part of the ranks, and by both
+pub between-yes : (from to i : ℕ) → from ≤ i → i < to → between from to i ≡ true
+unfolding between
+between-yes from to i h k = rw (le-leb from i h, lt-ltb i to k)
+
+pub between-low : (from to i : ℕ) → between from to i ≡ true → from ≤ i
+unfolding between
+between-low from to i e = leb-true from i (and-left (leb from i) (ltb i to) e)
+
+pub between-high : (from to i : ℕ) → between from to i ≡ true → i < to
+unfolding between
+between-high from to i e = ltb-true i to (and-right (leb from i) (ltb i to) e)
+
+pub but-yes : (skip i : ℕ) → i ≢ skip → allBut skip i ≡ true
+unfolding allBut
+but-yes skip i h = rw (ne-eqb i skip h)
+
+pub but-other : (skip i : ℕ) → allBut skip i ≡ true → i ≢ skip
+unfolding allBut
+but-other skip i k e = not-both (not (eqb i skip)) k (rw (eq-eqb i skip e))
+
+module _ {N n : ℕ} {t : List ℕ} (v : Valid N n t) where
+  -- one turn of the loop over the ranks: those from `from` up to i are done
+  pub spread-next : {tail tail' dart from i : ℕ} {w w' : List ℕ} → dart < n → i ≤ N → Longer n tail tail' w w' → Marked w' (link N n t i dart)
+      → ((j : ℕ) → from ≤ j → j < i → Marked w (link N n t j dart)) → (j : ℕ) → from ≤ j → j < i + 1 → Marked w' (link N n t j dart)
+  spread-next {dart = dart} {i = i} {w' = w'} hd hi L m before j hf h = go (ℕ-discrete j i)
     where
       go : Dec (j ≡ i) → Marked w' (link N n t j dart)
-      go (yes e) = rw e (m (rw e at k))
-      go (no e) = grown-marked G (v .inside j dart (omega arith) hd) (before j (omega arith) k)
+      go (yes e) = rw e m
+      go (no e) = longer-marked L (v .inside j dart (omega arith) hd) (before j hf (omega arith))
 
+  -- the ranks below one and those above it are all but that one
+  pub spread-both : (skip : ℕ) {a b c dart : ℕ} {w w' w'' : List ℕ} → dart < n → Grown (between 0 skip) N n t a b w w' × Around (between 0 skip) N n t dart w'
+      → Grown (between (skip + 1) (N + 1)) N n t b c w' w'' × Around (between (skip + 1) (N + 1)) N n t dart w'' → Grown (allBut skip) N n t a c w w'' × Around (allBut skip) N n t dart w''
+  spread-both skip {dart = dart} {w'' = w''} hd (G, A) (H, B) = (grown-trans (grown-wider below G) (grown-wider above H), λ i h k. around i h (but-other skip i k) (decLt i skip))
+    where
+      below : (i : ℕ) → i ≤ N → between 0 skip i ≡ true → allBut skip i ≡ true
+      below i h k = but-yes skip i (omega (arith, between-high 0 skip i k))
+
+      above : (i : ℕ) → i ≤ N → between (skip + 1) (N + 1) i ≡ true → allBut skip i ≡ true
+      above i h k = but-yes skip i (omega (arith, between-low (skip + 1) (N + 1) i k))
+
+      around : (i : ℕ) → i ≤ N → i ≢ skip → Dec (i < skip) → Marked w'' (link N n t i dart)
+      around i h e (yes l) = longer-marked (H .on) (v .inside i dart h hd) (A i h (between-yes 0 skip i (omega arith) l))
+      around i h e (no l) = B i h (between-yes (skip + 1) (N + 1) i (omega arith) (omega arith))
+
+module _ {keep : ℕ → Bool} {N n : ℕ} {t : List ℕ} (v : Valid N n t) where
   -- what is settled stays so
-  pub settled-grown : {least from to tail tail' : ℕ} {w w' : List ℕ} → Queue n tail w → Grown keep N n t least tail tail' w w' → to ≤ tail → Settled keep N n t from to w → Settled keep N n t from to w'
-  settled-grown {w = w} Q G h S p hf ht i hi k = rw (G .same p (omega arith)) (grown-marked G (v .inside i (getD w (n + p) 0) hi (Q .darts p (omega arith))) (S p hf ht i hi k))
+  pub settled-longer : {from to tail tail' : ℕ} {w w' : List ℕ} → Queue n tail w → Longer n tail tail' w w' → to ≤ tail → Settled keep N n t from to w → Settled keep N n t from to w'
+  settled-longer {w = w} Q L h S p hf ht i hi k = rw (L .same p (omega arith)) (longer-marked L (v .inside i (getD w (n + p) 0) hi (Q .darts p (omega arith))) (S p hf ht i hi k))
 
   -- the head of the queue has been spread from
-  pub settled-next : {from head tail tail' : ℕ} {w w' : List ℕ} → Queue n tail w → head < tail → Grown keep N n t 0 tail tail' w w' → Around keep N n t (getD w (n + head) 0) w' → Settled keep N n t from head w → Settled keep N n t from (head + 1) w'
-  settled-next {from} {head} {w = w} {w' = w'} Q h G A S p hf ht i hi k = go (ℕ-discrete p head)
+  pub settled-next : {from head tail tail' : ℕ} {w w' : List ℕ} → Queue n tail w → head < tail → Longer n tail tail' w w' → Around keep N n t (getD w (n + head) 0) w' → Settled keep N n t from head w → Settled keep N n t from (head + 1) w'
+  settled-next {from} {head} {w = w} {w' = w'} Q h L A S p hf ht i hi k = go (ℕ-discrete p head)
     where
       go : Dec (p ≡ head) → Marked w' (link N n t i (getD w' (n + p) 0))
-      go (yes e) = rw (e, G .same head h) (A i hi k)
-      go (no e) = settled-grown Q G (omega arith) S p hf (omega arith) i hi k
-
-  -- the flood's start
-  pub flood-start : {tail dart tail' : ℕ} {w w' : List ℕ} → Queue n tail w → dart < n → tail' ≡ enteredTail w tail dart → w' ≡ enteredRoom n w tail dart 0 → Grown keep N n t (dart + 1) tail tail' w w' × Marked w' dart
-  flood-start {tail} {dart} {w = w} Q hd et ew = rw (et, ew) (grown-enter Q hd (omega arith) (λ b h T. (dart, omega arith, Linked.here)))
-
-  -- the flood's end
-  pub flood-end : {dart tail tail' tail'' : ℕ} {w w' w'' : List ℕ} → dart < n → Grown keep N n t (dart + 1) tail tail' w w' × Marked w' dart → Grown keep N n t 0 tail' tail'' w' w'' → Settled keep N n t tail tail'' w'' → Flooded keep N n t dart tail tail'' w w''
-  flood-end hd (G, m) H S = record { grown = grown-trans G H; started = grown-marked H hd m; settled = S }
+      go (yes e) = rw (e, L .same head h) (A i hi k)
+      go (no e) = settled-longer Q L (omega arith) S p hf (omega arith) i hi k
 
   -- what is settled is closed: all that is reached from a marked dart is marked
   pub reached-marked : {tail d e : ℕ} {w : List ℕ} → Queue n tail w → Settled keep N n t 0 tail w → d < n → Marked w d → Reached keep N n t d e → Marked w e
@@ -211,10 +268,41 @@ module _ {keep : ℕ → Bool} {N n : ℕ} {t : List ℕ} (v : Valid N n t) wher
       let (p, hp, z) = Q .entered e (reached-below (valid-closed v) h r) (reached-marked Q S h m r) in
       rw z at (S p (omega arith) hp i hi k)
 
--- what is linked is reached
-pub linked-reached : {keep : ℕ → Bool} {N n : ℕ} {t : List ℕ} {d e m : ℕ} → Linked keep N n t d e m → Reached keep N n t d e
-linked-reached Linked.here = Reached.here
-linked-reached (Linked.onward i h k r) = Reached.onward i h k (linked-reached r)
+-- the flood's start and its end
+pub flood-start : {n tail dart class tail' : ℕ} {w w' : List ℕ} → Queue n tail w → dart < n → class < 2 → tail' ≡ enteredTail w tail dart → w' ≡ enteredRoom n w tail dart class → Queue n tail' w'
+flood-start Q hd hc et ew = rw (et, ew) (entry Q hd hc .on .queue)
+
+pub flood-end : {keep : ℕ → Bool} {N n tail dart class tail' tail'' : ℕ} {t w w' w'' : List ℕ} → tail' ≡ enteredTail w tail dart → w' ≡ enteredRoom n w tail dart class
+    → Grown keep N n t tail' tail'' w' w'' → Settled keep N n t tail tail'' w'' → Flooded keep N n t dart class tail tail'' w w''
+flood-end et ew G S = record { grown = rw (← et, ← ew) G; settled = S }
+
+-- what a flood leaves
+module _ {keep : ℕ → Bool} {N n : ℕ} {t : List ℕ} {start class tail tail' : ℕ} {w w' : List ℕ} (Q : Queue n tail w) (hs : start < n) (hc : class < 2) (F : Flooded keep N n t start class tail tail' w w') where
+  pub flooded-longer : Longer n tail tail' w w'
+  flooded-longer = longer-trans (entry Q hs hc .on) (F .grown .on)
+
+  pub flooded-started : Marked w' start
+  flooded-started = longer-marked (F .grown .on) hs (entry Q hs hc .marked)
+
+  -- what is marked is linked to what was, or to the start
+  pub flooded-traced : (d : ℕ) → d < n → Marked w' d → ((e : ℕ) × (e < n) × Marked w e × Linked keep N n t e (getD w e 0) d (getD w' d 0)) ⊎ Linked keep N n t start class d (getD w' d 0)
+  flooded-traced d h m = let (e, he, y, r) = F .grown .traced d h m in go e he y r (entry Q hs hc .only e he y)
+    where
+      room : List ℕ
+      room = enteredRoom n w tail start class
+
+      go : (e : ℕ) → e < n → Marked room e → Linked keep N n t e (getD room e 0) d (getD w' d 0) → Marked w e ⊎ ((e ≡ start) × (getD room e 0 ≡ class))
+          → ((e : ℕ) × (e < n) × Marked w e × Linked keep N n t e (getD w e 0) d (getD w' d 0)) ⊎ Linked keep N n t start class d (getD w' d 0)
+      go e he y r (inl m') = inl ((e, he, m', rw (entry Q hs hc .on .kept e he m') at r))
+      go e he y r (inr (z, q)) = inr (rw (q, z) at r)
+
+  -- where what was marked is settled all is
+  pub flooded-settled : Valid N n t → Settled keep N n t 0 tail w → Settled keep N n t 0 tail' w'
+  flooded-settled v S p hf ht = go (decLt p tail)
+    where
+      go : Dec (p < tail) → Around keep N n t (getD w' (n + p) 0) w'
+      go (yes h) = settled-longer v Q flooded-longer (omega arith) S p hf h
+      go (no h) = F .settled p (omega arith) ht
 
 -- after blanking nothing is marked
 class-blank : (n : ℕ) (w : List ℕ) (d : ℕ) → d < n → getD (blank (2 * n) w) d 0 ≡ mark
@@ -235,8 +323,8 @@ module _ (n : ℕ) (w w' : List ℕ) (e : w' ≡ blank (2 * n) w) where
     entered = λ d h m. absurd (m (class-blanked d h));
   }
 
-  pub traced-blanked : {keep : ℕ → Bool} {N bound : ℕ} {t : List ℕ} → Traced keep N n t bound w'
-  traced-blanked d h m = absurd (m (class-blanked d h))
+  pub none-blanked : (d : ℕ) → d < n → Marked w' d → ⊥
+  none-blanked d h m = m (class-blanked d h)
 
   pub past-blanked : drop (2 * n) w' ≡ drop (2 * n) w
   past-blanked = rw e (drop-blank (2 * n) w)

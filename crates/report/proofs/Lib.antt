@@ -1,4 +1,5 @@
 pub mod Floods
+pub mod Spans
 pub mod Counts
 pub mod Classes
 pub mod Answers

@@ -2,11 +2,11 @@
 use Prim.Native.Nat.{ℕ, _+_, _*_, _-_, _/_, _%_, _≤_, _<_}
 use mathlib.Core.Path.{_≡_}
 use mathlib.Core.Logic.{_≢_}
-use mathlib.Core.Bool.{Bool, true, cond}
+use mathlib.Core.Bool.{Bool, true, _&&_, cond}
 use mathlib.Core.List.{List}
 use lib.ListN.{length, getD, set, drop}
-use lib.Dec.{eqb}
-use Rattle.rules.specs.Map.{mark, link}
+use lib.Dec.{eqb, ltb, leb}
+use Rattle.rules.specs.Map.{mark, link, Reached, allRanks}
 
 -- dart d has a class
 abbrev pub Marked : List ℕ → ℕ → Type 0
@@ -29,14 +29,14 @@ pub record Queue (n tail : ℕ) (w : List ℕ) : Type 0 where
   pub once : (p q : ℕ) → p < tail → q < tail → getD w (n + p) 0 ≡ getD w (n + q) 0 → p ≡ q
   pub entered : (d : ℕ) → d < n → Marked w d → (p : ℕ) × (p < tail) × (getD w (n + p) 0 ≡ d)
 
--- dart e is reached from dart d by links of the ranks kept; the last number is 0 after an even number of links, 1 after an odd one
-pub data Linked (keep : ℕ → Bool) (N n : ℕ) (t : List ℕ) (d : ℕ) : ℕ → ℕ → Type 0 where
-  here : Linked keep N n t d d 0
-  onward : {e m : ℕ} (i : ℕ) → i ≤ N → keep i ≡ true → Linked keep N n t d e m → Linked keep N n t d (link N n t i e) (1 - m)
+-- dart e is reached from dart d by links of the ranks kept, and where d has class c it has class m: each link leads to the other class
+pub data Linked (keep : ℕ → Bool) (N n : ℕ) (t : List ℕ) (d c : ℕ) : ℕ → ℕ → Type 0 where
+  here : Linked keep N n t d c d c
+  onward : {e m : ℕ} (i : ℕ) → i ≤ N → keep i ≡ true → Linked keep N n t d c e m → Linked keep N n t d c (link N n t i e) (1 - m)
 
--- every marked dart is reached from a dart below the bound, and its class says by how many links
-abbrev pub Traced : (ℕ → Bool) → ℕ → ℕ → List ℕ → ℕ → List ℕ → Type 0
-Traced keep N n t bound w = (d : ℕ) → d < n → Marked w d → (e : ℕ) × (e < bound) × Linked keep N n t e d (getD w d 0)
+-- every rank from one up to another is kept
+unfoldable pub between : ℕ → ℕ → ℕ → Bool
+between from to i = leb from i && ltb i to
 
 -- the links of the ranks kept lead from a dart to marked ones
 abbrev pub Around : (ℕ → Bool) → ℕ → ℕ → List ℕ → ℕ → List ℕ → Type 0
@@ -46,20 +46,28 @@ Around keep N n t d w = (i : ℕ) → i ≤ N → keep i ≡ true → Marked w (
 abbrev pub Settled : (ℕ → Bool) → ℕ → ℕ → List ℕ → ℕ → ℕ → List ℕ → Type 0
 Settled keep N n t from to w = (p : ℕ) → from ≤ p → p < to → Around keep N n t (getD w (n + p) 0) w
 
--- a flood has gone on from one work room to another: what was there stays, and what is new is traced to where the old is, or to a dart below `least`
-pub record Grown (keep : ℕ → Bool) (N n : ℕ) (t : List ℕ) (least tail tail' : ℕ) (w w' : List ℕ) : Type 0 where
+-- one work room has grown into another: what was there stays
+pub record Longer (n tail tail' : ℕ) (w w' : List ℕ) : Type 0 where
   pub queue : Queue n tail' w'
   pub longer : tail ≤ tail'
   pub past : drop (2 * n) w' ≡ drop (2 * n) w
   pub kept : (d : ℕ) → d < n → Marked w d → getD w' d 0 ≡ getD w d 0
   pub same : (p : ℕ) → p < tail → getD w' (n + p) 0 ≡ getD w (n + p) 0
-  pub traced : (bound : ℕ) → least ≤ bound → Traced keep N n t bound w → Traced keep N n t bound w'
 
--- a flood has ended: its start is marked, and no link of the ranks kept leads out of what it marked
-pub record Flooded (keep : ℕ → Bool) (N n : ℕ) (t : List ℕ) (start tail tail' : ℕ) (w w' : List ℕ) : Type 0 where
-  pub grown : Grown keep N n t (start + 1) tail tail' w w'
-  pub started : Marked w' start
+-- and all that is marked is linked to what was
+pub record Grown (keep : ℕ → Bool) (N n : ℕ) (t : List ℕ) (tail tail' : ℕ) (w w' : List ℕ) : Type 0 where
+  pub on : Longer n tail tail' w w'
+  pub traced : (d : ℕ) → d < n → Marked w' d → (e : ℕ) × (e < n) × Marked w e × Linked keep N n t e (getD w e 0) d (getD w' d 0)
+
+-- a flood has ended: all that is marked is linked to its start or to what was marked before, and no link of the ranks kept leads out of what it marked
+pub record Flooded (keep : ℕ → Bool) (N n : ℕ) (t : List ℕ) (start class tail tail' : ℕ) (w w' : List ℕ) : Type 0 where
+  pub grown : Grown keep N n t (enteredTail w tail start) tail' (enteredRoom n w tail start class) w'
   pub settled : Settled keep N n t tail tail' w'
+
+-- all that is reached from dart 0 is marked and nothing else, and each class says by how many links
+pub record Spanned (N n : ℕ) (t w : List ℕ) : Type 0 where
+  pub linked : (d : ℕ) → d < n → Marked w d → Linked allRanks N n t 0 0 d (getD w d 0)
+  pub reached : (d : ℕ) → Reached allRanks N n t 0 d → Marked w d
 
 -- the k-th link, by rank, then dart, stays within a class
 unfoldable pub alike : ℕ → ℕ → List ℕ → List ℕ → ℕ → Bool

@@ -3,13 +3,12 @@
 use rules::ReportAnswer;
 use rules::Session;
 ghost use mathlib.Core.Path.{_≡_};
-ghost use mathlib.Core.Bool.{true};
-ghost use Prim.Native.Nat.{_+_, _*_, _≤_, _<_};
+ghost use Prim.Native.Nat.{_+_, _*_, _-_, _≤_, _<_};
 ghost use lib.ListN.{length, getD, drop};
 ghost use Rattle.rules.specs.Lists.{first};
 ghost use Rattle.rules.specs.Map.{Limits, Valid, Connected, size, link, allBut};
 ghost use Rattle.rules.specs.Report.{cellCounts, freePairs, reportAnswer, reportWork};
-ghost use Rattle.report.specs.Flood.{Marked, enteredRoom, enteredTail, Queue, Around, Grown, Flooded, alike};
+ghost use Rattle.report.specs.Flood.{enteredRoom, enteredTail, Queue, between, Around, Grown, Flooded, alike};
 
 // A dart that has no mark gets its class and enters the queue. The answer is the queue's length.
 pub fn enter(work: &mut [u16], darts: usize, tail: usize, dart: u16, class: u16) -> usize
@@ -25,30 +24,49 @@ pub fn enter(work: &mut [u16], darts: usize, tail: usize, dart: u16, class: u16)
     tail + 1
 }
 
-// The link of one rank, if it is kept, is followed from a dart.
+// The link of one rank is followed from a dart; where it leads gets a class.
 pub fn follow(
     tables: &[u16],
     work: &mut [u16],
     dim: usize,
     darts: usize,
-    skip: usize,
     rank: usize,
     tail: usize,
     dart: u16,
+    class: u16,
 ) -> usize
-    requires { ⌜ Limits dim darts (now tables) × Valid dim darts (now tables) × Queue darts tail (now work) × (rank ≤ dim) × (dart < darts) × (getD (now work) dart 0 < 2) ⌝ }
-    ensures { λ r. ⌜ Grown (allBut skip) dim darts (now (tables .entry)) 0 tail r (now (work .entry)) (now (work .exit)) × (allBut skip rank ≡ true → Marked (now (work .exit)) (link dim darts (now (tables .entry)) rank dart)) ⌝ }
+    requires { ⌜ Limits dim darts (now tables) × Valid dim darts (now tables) × Queue darts tail (now work) × (rank ≤ dim) × (dart < darts) ⌝ }
+    ensures { λ r. ⌜ (r ≡ enteredTail (now (work .entry)) tail (link dim darts (now (tables .entry)) rank dart)) × (now (work .exit) ≡ enteredRoom darts (now (work .entry)) tail (link dim darts (now (tables .entry)) rank dart) class) ⌝ }
 {
-    if rank == skip {
-        return tail;
-    }
-    let d = dart as usize;
-    let x = tables::link(tables, dim, darts, rank, dart);
-    let class = 1 - work[d];
+    let x = tables::link_at(tables, dim, darts, rank, dart);
     enter(work, darts, tail, x, class)
 }
 
-// The links of all ranks but one are followed from a dart.
+// The links of the ranks from one up to another are followed from a dart; the class is the other one than its own.
+pub fn spread_part(
+    tables: &[u16],
+    work: &mut [u16],
+    dim: usize,
+    darts: usize,
+    from: usize,
+    to: usize,
+    tail: usize,
+    dart: u16,
+    class: u16,
+) -> usize
+    requires { ⌜ Limits dim darts (now tables) × Valid dim darts (now tables) × Queue darts tail (now work) × (to ≤ dim + 1) × (dart < darts) × (getD (now work) dart 0 < 2) × (class ≡ 1 - getD (now work) dart 0) ⌝ }
+    ensures { λ r. ⌜ Grown (between from to) dim darts (now (tables .entry)) tail r (now (work .entry)) (now (work .exit)) × Around (between from to) dim darts (now (tables .entry)) dart (now (work .exit)) ⌝ }
+{
+    let mut end = tail;
+    let mut i = from;
+    while i < to {
+        end = follow(tables, work, dim, darts, i, end, dart, class);
+        i += 1;
+    }
+    end
+}
+
+// The links of all ranks but one are followed from a dart: in two parts, so that no turn of a loop asks for the rank left out.
 pub fn spread(
     tables: &[u16],
     work: &mut [u16],
@@ -58,19 +76,25 @@ pub fn spread(
     tail: usize,
     dart: u16,
 ) -> usize
-    requires { ⌜ Limits dim darts (now tables) × Valid dim darts (now tables) × Queue darts tail (now work) × (dart < darts) × (getD (now work) dart 0 < 2) ⌝ }
-    ensures { λ r. ⌜ Grown (allBut skip) dim darts (now (tables .entry)) 0 tail r (now (work .entry)) (now (work .exit)) × Around (allBut skip) dim darts (now (tables .entry)) dart (now (work .exit)) ⌝ }
+    requires { ⌜ Limits dim darts (now tables) × Valid dim darts (now tables) × Queue darts tail (now work) × (skip ≤ dim + 1) × (dart < darts) × (getD (now work) dart 0 < 2) ⌝ }
+    ensures { λ r. ⌜ Grown (allBut skip) dim darts (now (tables .entry)) tail r (now (work .entry)) (now (work .exit)) × Around (allBut skip) dim darts (now (tables .entry)) dart (now (work .exit)) ⌝ }
 {
-    let mut end = tail;
-    let mut i = 0;
-    while i <= dim {
-        end = follow(tables, work, dim, darts, skip, i, end, dart);
-        i += 1;
-    }
-    end
+    let class = 1 - work[dart as usize];
+    let end = spread_part(tables, work, dim, darts, 0, skip, tail, dart, class);
+    spread_part(
+        tables,
+        work,
+        dim,
+        darts,
+        skip + 1,
+        dim + 1,
+        end,
+        dart,
+        class,
+    )
 }
 
-// All that is reached from a dart is marked.
+// All that is reached from a dart is marked; the dart gets a class, and each link leads to the other one.
 pub fn flood(
     tables: &[u16],
     work: &mut [u16],
@@ -79,11 +103,12 @@ pub fn flood(
     skip: usize,
     tail: usize,
     dart: u16,
+    class: u16,
 ) -> usize
-    requires { ⌜ Limits dim darts (now tables) × Valid dim darts (now tables) × Queue darts tail (now work) × (dart < darts) ⌝ }
-    ensures { λ r. ⌜ Flooded (allBut skip) dim darts (now (tables .entry)) dart tail r (now (work .entry)) (now (work .exit)) ⌝ }
+    requires { ⌜ Limits dim darts (now tables) × Valid dim darts (now tables) × Queue darts tail (now work) × (skip ≤ dim + 1) × (dart < darts) × (class < 2) ⌝ }
+    ensures { λ r. ⌜ Flooded (allBut skip) dim darts (now (tables .entry)) dart class tail r (now (work .entry)) (now (work .exit)) ⌝ }
 {
-    let mut end = enter(work, darts, tail, dart, 0);
+    let mut end = enter(work, darts, tail, dart, class);
     let mut head = tail;
     while head < end {
         let next = work[darts + head];
@@ -95,7 +120,7 @@ pub fn flood(
 
 // The number of cells of a rank: a flood from each dart that none before it reached.
 pub fn cells(tables: &[u16], work: &mut [u16], dim: usize, darts: usize, skip: usize) -> u32
-    requires { ⌜ Limits dim darts (now tables) × Valid dim darts (now tables) × (2 * darts ≤ length (now work)) ⌝ }
+    requires { ⌜ Limits dim darts (now tables) × Valid dim darts (now tables) × (2 * darts ≤ length (now work)) × (skip ≤ dim) ⌝ }
     ensures { λ r. ⌜ (r ≡ Rattle.rules.specs.Report.cells dim darts (now (tables .entry)) skip) × (drop (2 * darts) (now (work .exit)) ≡ drop (2 * darts) (now (work .entry))) ⌝ }
 {
     tables::blank(work, 2 * darts);
@@ -104,7 +129,7 @@ pub fn cells(tables: &[u16], work: &mut [u16], dim: usize, darts: usize, skip: u
     let mut d = 0;
     while d < darts {
         if work[d] == Session::NO_LINK {
-            tail = flood(tables, work, dim, darts, skip, tail, d as u16);
+            tail = flood(tables, work, dim, darts, skip, tail, d as u16, 0);
             found += 1;
         }
         d += 1;
@@ -168,7 +193,7 @@ pub fn orientable(tables: &[u16], work: &mut [u16], dim: usize, darts: usize) ->
     ensures { λ r. ⌜ (r ≡ Rattle.rules.specs.Report.orientable dim darts (now (tables .entry))) × (drop (2 * darts) (now (work .exit)) ≡ drop (2 * darts) (now (work .entry))) ⌝ }
 {
     tables::blank(work, 2 * darts);
-    flood(tables, work, dim, darts, dim + 1, 0, 0);
+    flood(tables, work, dim, darts, dim + 1, 0, 0, 0);
     let size = (dim + 1) * darts;
     first_alike(tables, work, dim, darts) == size
 }

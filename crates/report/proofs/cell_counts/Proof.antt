@@ -20,7 +20,7 @@ loop-holds c = (refl, omega arith, tallied-start _ _ _, refl)
 cells-requires : tie.Need-cells-requires Inv-loop μ-loop
 cells-requires c κs =
     let p = c .before .before .before .before .before .pre in
-    (p .0, p .1, omega arith)
+    (p .0, p .1, omega arith, omega arith)
 
 mul-counts : tie.Need-mul-counts Inv-loop μ-loop
 mul-counts c = omega arith

@@ -4,7 +4,7 @@ use mathlib.Core.Path.{_≡_, refl, _∙_}
 use mathlib.Core.Logic.{⊎-elim}
 use native.Mathlib.Omega.{arith}
 use lib.ListN.{length, drop}
-use Rattle.report.proofs.Floods.{past-blanked}
+use Rattle.report.proofs.Floods.{flooded-longer, past-blanked}
 use Rattle.report.proofs.Counts.{Counted, counted-start, counted-old, counted-new, counted-end}
 use Rattle.report.proofs.cells.Statement.{statement}
 use Rattle.report.proofs.cells.Tie as tie
@@ -37,7 +37,7 @@ cast-flood c = omega arith
 flood-requires : tie.Need-flood-requires Inv-loop μ-loop
 flood-requires c κs =
     let p = c .before .before .before .before .before .before .before .before .before .before .before .pre in
-    (p .0, p .1, c .before .before .before .before .loop .inv .2 .queue, omega arith)
+    (p .0, p .1, c .before .before .before .before .loop .inv .2 .queue, omega arith, omega arith, omega arith)
 
 add-found : tie.Need-add-found Inv-loop μ-loop
 add-found c = let R = c .before .before .before .before .before .before .before .loop .inv .2 in omega arith
@@ -53,7 +53,7 @@ loop-again c =
     let p = c .before .before .before .before .before .before .before .before .before .before .pre in
     let l = c .before .before .before .loop in
     ⊎-elim
-    (λ w. rw (w .5, w .6, w .7) (w .2 .kept .1 .0 ∙ l .inv .0, omega arith, counted-new (p .1) (l .inv .2) (omega arith) (w .0 .taken) (w .2 .ensures), w .2 .ensures .grown .past ∙ l .inv .3))
+    (λ w. rw (w .5, w .6, w .7) (w .2 .kept .1 .0 ∙ l .inv .0, omega arith, counted-new (p .1) (l .inv .2) (omega arith) (w .0 .taken) (w .2 .ensures), flooded-longer (l .inv .2 .queue) (omega arith) (omega arith) (w .2 .ensures) .past ∙ l .inv .3))
     (λ w. rw (w .1, w .2, w .3) (l .inv .0, omega arith, counted-old (p .1) (l .inv .2) (omega arith) (w .0 .left), l .inv .3))
     (c .if1 .came)
 

@@ -1,52 +1,42 @@
--- `report::spread` meets its contract: after i turns the links of the ranks below i are followed. Assumes nothing.
-use Prim.Native.Nat.{ℕ, _+_, _-_, _≤_, _<_}
-use mathlib.Core.Path.{_≡_, refl, _∙_}
-use mathlib.Core.Bool.{true}
+-- `report::spread` meets its contract: the ranks below the one left out and those above it are all the others. Assumes nothing.
+use mathlib.Core.Path.{_∙_}
 use native.Mathlib.Omega.{arith}
-use lib.ListN.{length}
 use borrow.Author.Needs.{needs}
-use Rattle.rules.specs.Map.{link, allBut}
-use Rattle.report.specs.Flood.{Marked, Grown}
-use Rattle.report.proofs.Floods.{grown-refl, grown-trans, spread-next, grown-class}
+use Rattle.report.proofs.Floods.{longer-class, longer-other, spread-both}
 use Rattle.report.proofs.spread.Statement.{statement}
 use Rattle.report.proofs.spread.Tie as tie
 
-abbrev Inv-loop : tie.InvT-loop
-Inv-loop tables work₀ dim darts skip tail dart end₀ i₀ work end i =
-    (length work ≡ length work₀) × (i ≤ dim + 1) × Grown (allBut skip) dim darts tables 0 tail end work₀ work × ((j : ℕ) → j < i → allBut skip j ≡ true → Marked work (link dim darts tables j dart))
+mul-class : tie.Need-mul-class
+mul-class c = search needs
 
-abbrev μ-loop : tie.MeasureT-loop
-μ-loop tables work₀ dim darts skip tail dart end₀ i₀ work end i = dim + 1 - i
+slice-read-class : tie.Need-slice-read-class
+slice-read-class c = search needs
 
-loop-holds : tie.Need-loop-holds Inv-loop μ-loop
-loop-holds c = (refl, omega arith, grown-refl (c .before .before .pre .2), λ j h k. absurd (omega arith))
+sub-class : tie.Need-sub-class
+sub-class c = search needs
 
-follow-requires : tie.Need-follow-requires Inv-loop μ-loop
-follow-requires c κs =
-    let p = c .before .before .before .before .before .pre in
-    let G = c .before .before .loop .inv .2 in
-    (p .0, p .1, G .queue, omega arith, p .3, grown-class G (p .3) (p .4))
+spread-part-requires : tie.Need-spread-part-requires
+spread-part-requires c κs = search needs
 
-add-i : tie.Need-add-i Inv-loop μ-loop
-add-i c = omega arith
+add-spread-part : tie.Need-add-spread-part
+add-spread-part c = search needs
 
-loop-less : tie.Need-loop-less Inv-loop μ-loop
-loop-less c = omega arith
+add-spread-part-2 : tie.Need-add-spread-part-2
+add-spread-part-2 c = search needs
 
-loop-again : tie.Need-loop-again Inv-loop μ-loop
-loop-again c =
+spread-part-requires-2 : tie.Need-spread-part-requires-2
+spread-part-requires-2 c κs =
     let p = c .before .before .before .before .before .before .before .before .pre in
-    let l = c .before .before .before .before .before .loop in
-    let k = c .before .before .follow in
-    (k .kept .1 .0 ∙ l .inv .0, omega arith, grown-trans (l .inv .2) (k .ensures .0), spread-next (p .1) (p .3) (omega arith) (k .ensures .0) (k .ensures .1) (l .inv .3))
+    let L = c .before .before .before .spread-part .ensures .0 .on in
+    (p .0, p .1, L .queue, omega arith, p .4, longer-class L (p .4) (p .5), longer-other L (p .4) (p .5))
 
-same-length : tie.Need-same-length Inv-loop μ-loop
+same-length : tie.Need-same-length
 same-length c = search needs
 
-returns : tie.Need-returns Inv-loop μ-loop
+returns : tie.Need-returns
 returns c =
-    let l = c .before .loop in
-    (l .inv .2, λ i h k. l .inv .3 i (omega arith) k)
+    let s = c .before .before .before .before .before .before .before .before .before .before .before in
+    spread-both (s .pre .1) (s .args .skip) (s .pre .4) (c .before .before .before .before .before .before .spread-part .ensures) (c .before .before .spread-part2 .ensures)
 
 pub spread-spec : {M : Type 1} → statement M
-spread-spec = tie.close (tie.spec Inv-loop μ-loop loop-holds follow-requires add-i loop-less loop-again same-length returns)
+spread-spec = tie.close (tie.spec mul-class slice-read-class sub-class spread-part-requires add-spread-part add-spread-part-2 spread-part-requires-2 same-length returns)
