@@ -6,6 +6,7 @@ use mathlib.Core.Logic.{_≢_}
 use mathlib.Core.Bool.{Bool, true, false, not}
 use mathlib.Core.List.{List}
 use native.Mathlib.Omega.{arith}
+use native.Mathlib.Nat.{mul-le-mul}
 use native.Mathlib.Decide.{ℕ-discrete}
 use lib.ListN.{getD}
 use lib.Dec.{eqb}
@@ -13,7 +14,7 @@ use borrow.Author.Tests.{eqb-true, eqb-false, eq-eqb, ne-eqb}
 use Rattle.rules.specs.Lists.{first}
 use Rattle.rules.specs.Map.{size, link, allRanks, Valid}
 use Rattle.rules.specs.Report.{orientable}
-use Rattle.rules.proofs.Lists.{first-le, first-passes, first-before}
+use Rattle.rules.proofs.Lists.{Sought, sought-start, first-le, first-passes, first-before}
 use Rattle.rules.proofs.Places.{nth-rank, nth-dart, nth-below, rank-nth, dart-nth}
 use Rattle.rules.proofs.Orbits.{valid-closed, reached-below}
 use Rattle.rules.proofs.Cells.{Orientable, orientable-sound, orientable-complete}
@@ -45,14 +46,24 @@ other-one zero (suc (suc b)) h k e = absurd (omega arith)
 other-one (suc zero) (suc (suc b)) h k e = absurd (omega arith)
 other-one (suc (suc a)) b h k e = absurd (omega arith)
 
--- the test of the code, x and y being the classes that it read
-pub alike-yes : (N n : ℕ) (t w : List ℕ) (k x : ℕ) → x ≡ link N n t (k / n) (k % n) → getD w (k % n) 0 ≡ getD w x 0 → alike N n t w k ≡ true
-unfolding alike
-alike-yes N n t w k x e h = rw (← e) (eq-eqb (getD w (k % n) 0) (getD w x 0) h)
+-- the test of the code, x being the link that it read
+module _ (N n : ℕ) (t w : List ℕ) (i d x : ℕ) (hd : d < n) (e : x ≡ link N n t i d) where
+  alike-test : alike N n t w (i * n + d) ≡ eqb (getD w d 0) (getD w x 0)
+  unfolding alike
+  alike-test = rw (rank-nth n i d hd, dart-nth n i d hd, e)
 
-pub alike-no : (N n : ℕ) (t w : List ℕ) (k x : ℕ) → x ≡ link N n t (k / n) (k % n) → getD w (k % n) 0 ≢ getD w x 0 → alike N n t w k ≡ false
-unfolding alike
-alike-no N n t w k x e h = rw (← e) (ne-eqb (getD w (k % n) 0) (getD w x 0) h)
+  pub alike-yes : getD w d 0 ≡ getD w x 0 → alike N n t w (i * n + d) ≡ true
+  alike-yes h = alike-test ∙ eq-eqb (getD w d 0) (getD w x 0) h
+
+  pub alike-no : getD w d 0 ≢ getD w x 0 → alike N n t w (i * n + d) ≡ false
+  alike-no h = alike-test ∙ ne-eqb (getD w d 0) (getD w x 0) h
+
+-- a search by ranks starts at the first link, and the darts of one rank are among the links
+pub rows-start : (f : ℕ → Bool) (k n : ℕ) → Sought f k (0 * n)
+rows-start f k n = let z : 0 * n ≡ 0 = omega arith in rw z (sought-start f k)
+
+pub row-within : (N n i : ℕ) → i ≤ N → i * n + n ≤ size N n
+row-within N n i h = omega (arith, mul-le-mul {n₁ = suc i} {m₁ = n} {n₂ = suc N} {m₂ = n} (omega arith) (omega arith))
 
 -- any classes that do agree with the numbers of links from a dart of class 0
 linked-class : {keep : ℕ → Bool} {N n : ℕ} {t : List ℕ} {s d m : ℕ} (v : Valid N n t) (O : Orientable N n t) → s < n → Linked keep N n t s 0 d m → O .class d ≡ turn m (O .class s)

@@ -1,22 +1,23 @@
 -- Laws of the report's counts, one turn of a loop at a time: a dart leads its cell if no flood before it came there. Rests on Floods and the rules' Orbits.
-use Prim.Native.Nat.{ℕ, suc, _+_, _*_, _/_, _%_, _≤_, _<_}
+use Prim.Native.Nat.{ℕ, zero, suc, _+_, _*_, _≤_, _<_}
 use mathlib.Core.Path.{_≡_, refl, ap, sym, _∙_}
 use mathlib.Core.Logic.{_≢_, _⊎_, inl, inr}
 use mathlib.Core.Bool.{Bool, true, false, not, cond}
 use mathlib.Core.List.{List}
 use native.Mathlib.Omega.{arith}
-use native.Mathlib.Nat.{mul-le-mul}
 use native.Mathlib.Decide.{ℕ-discrete, decLe}
 use lib.ListN.{length, getD, set, replicate, length-set}
 use lib.Seq.{ext-getD, getD-set-same, getD-set-other}
 use lib.Dec.{eqb, leb}
 use borrow.Author.Tests.{eq-eqb, ne-eqb, le-leb, lt-leb}
 use Rattle.rules.specs.Lists.{listOf, someBelow, countBelow}
-use Rattle.rules.specs.Map.{mark, size, link, blank, Reached, allBut, Valid, Limits, reaches}
+use Rattle.rules.specs.Map.{mark, size, place, blank, Reached, allBut, Valid, Limits, reaches}
 use Rattle.rules.specs.Report.{leads, cells, freePairs, cellCounts}
 use Rattle.rules.proofs.Lists.{length-listOf, getD-listOf, getD-same, some-below, below-some}
+use Rattle.rules.proofs.Places.{rank-nth, dart-nth}
+use Rattle.tables.proofs.Laws.{entry-link}
 use Rattle.rules.proofs.Orbits.{valid-closed, reached-trans, reached-sym, reaches-reached, reached-reaches}
-use Rattle.report.specs.Flood.{Marked, Queue, Linked, Settled, Longer, Flooded}
+use Rattle.report.specs.Flood.{Marked, Queue, Linked, Settled, Longer, Flooded, isFree}
 use Rattle.report.proofs.Floods.{longer-marked, reached-marked, linked-reached, flooded-longer, flooded-started, flooded-traced, flooded-settled, queue-blanked, none-blanked}
 
 -- one number more below the bound
@@ -32,24 +33,34 @@ pub count-none : (f : ℕ → Bool) → countBelow 0 f ≡ 0
 unfolding countBelow
 count-none f = refl
 
--- the tables are not long
-pub size-small : {N n : ℕ} {t : List ℕ} → Limits N n t → size N n ≤ 28672
-size-small {N} {n} L = mul-le-mul {n₁ = suc N} {m₁ = n} {n₂ = 7} {m₂ = 4096} (omega arith) (omega arith)
+-- m numbers more
+count-on : (f : ℕ → Bool) (k m : ℕ) → countBelow (k + m) f ≡ countBelow k f + countBelow m (λ d. f (k + d))
+unfolding countBelow
+count-on f k zero = let e : k + 0 ≡ k = omega arith in rw e (omega arith)
+count-on f k (suc m) = let e : k + suc m ≡ suc (k + m) = omega arith in rw e (omega (arith, count-on f k m))
 
--- the k-th link, by rank, then dart, is a free pair's
-abbrev pub isFree : ℕ → ℕ → List ℕ → ℕ → Bool
-isFree N n t k = eqb (link N n t (k / n) (k % n)) (k % n)
+-- the test of the code, x being the entry that it read
+module _ (N n : ℕ) (t : List ℕ) (i d x : ℕ) (L : Limits N n t) (hi : i ≤ N) (hd : d < n) (e : x ≡ getD t (place N n i d) 0) where
+  free-test : isFree N n t (i * n + d) ≡ eqb x d
+  unfolding isFree
+  free-test = rw (rank-nth n i d hd, dart-nth n i d hd, ← entry-link N n t i d L hi hd, e)
 
--- the test of the code, x being the link that it read
-pub free-yes : (N n : ℕ) (t : List ℕ) (k free x : ℕ) → x ≡ link N n t (k / n) (k % n) → x ≡ k % n → free ≡ countBelow k (isFree N n t) → free + 1 ≡ countBelow (k + 1) (isFree N n t)
-free-yes N n t k free x e h c = ap (λ (y : ℕ). y + 1) c ∙ sym (count-yes (isFree N n t) k (rw (← e) (eq-eqb x (k % n) h)))
+  pub free-yes : (free : ℕ) → x ≡ d → free ≡ countBelow d (λ d. isFree N n t (i * n + d)) → free + 1 ≡ countBelow (d + 1) (λ d. isFree N n t (i * n + d))
+  free-yes free h c = ap (λ (y : ℕ). y + 1) c ∙ sym (count-yes (λ d. isFree N n t (i * n + d)) d (free-test ∙ eq-eqb x d h))
 
-pub free-no : (N n : ℕ) (t : List ℕ) (k free x : ℕ) → x ≡ link N n t (k / n) (k % n) → x ≢ k % n → free ≡ countBelow k (isFree N n t) → free ≡ countBelow (k + 1) (isFree N n t)
-free-no N n t k free x e h c = c ∙ sym (count-no (isFree N n t) k (rw (← e) (ne-eqb x (k % n) h)))
+  pub free-no : (free : ℕ) → x ≢ d → free ≡ countBelow d (λ d. isFree N n t (i * n + d)) → free ≡ countBelow (d + 1) (λ d. isFree N n t (i * n + d))
+  free-no free h c = c ∙ sym (count-no (λ d. isFree N n t (i * n + d)) d (free-test ∙ ne-eqb x d h))
 
-pub free-end : (N n : ℕ) (t : List ℕ) (k free : ℕ) → k ≡ size N n → free ≡ countBelow k (isFree N n t) → free ≡ freePairs N n t
-unfolding freePairs
-free-end N n t k free e c = c ∙ ap (λ (x : ℕ). countBelow x (isFree N n t)) e
+-- no rank, and one rank more
+pub free-start : (N n : ℕ) (t : List ℕ) → 0 ≡ countBelow (0 * n) (isFree N n t)
+free-start N n t = let z : 0 * n ≡ 0 = omega arith in rw z (sym (count-none (isFree N n t)))
+
+pub free-next : (N n : ℕ) (t : List ℕ) (i free more : ℕ) → free ≡ countBelow (i * n) (isFree N n t) → more ≡ countBelow n (λ d. isFree N n t (i * n + d)) → free + more ≡ countBelow ((i + 1) * n) (isFree N n t)
+free-next N n t i free more e q = let z : (i + 1) * n ≡ i * n + n = omega arith in rw (z, e, q) (sym (count-on (isFree N n t) (i * n) n))
+
+pub free-end : (N n : ℕ) (t : List ℕ) (i free : ℕ) → i ≡ N + 1 → free ≡ countBelow (i * n) (isFree N n t) → free ≡ freePairs N n t
+unfolding freePairs isFree
+free-end N n t i free e c = let z : i * n ≡ size N n = rw e (omega arith) in c ∙ ap (λ (x : ℕ). countBelow x (isFree N n t)) z
 
 -- floods of the cells of rank i have come to dart d
 pub record Counted (N n : ℕ) (t : List ℕ) (i d tail found : ℕ) (w : List ℕ) : Type 0 where

@@ -5,10 +5,10 @@ use rules::Session;
 ghost use mathlib.Core.Path.{_≡_};
 ghost use Prim.Native.Nat.{_+_, _*_, _-_, _≤_, _<_};
 ghost use lib.ListN.{length, getD, drop};
-ghost use Rattle.rules.specs.Lists.{first};
+ghost use Rattle.rules.specs.Lists.{countBelow, first};
 ghost use Rattle.rules.specs.Map.{Limits, Valid, Connected, size, link, allBut};
 ghost use Rattle.rules.specs.Report.{cellCounts, freePairs, reportAnswer, reportWork};
-ghost use Rattle.report.specs.Flood.{enteredRoom, enteredTail, Queue, between, Around, Grown, Flooded, alike};
+ghost use Rattle.report.specs.Flood.{enteredRoom, enteredTail, Queue, between, Around, Grown, Flooded, isFree, alike};
 
 // A dart that has no mark gets its class and enters the queue. The answer is the queue's length.
 pub fn enter(work: &mut [u16], darts: usize, tail: usize, dart: u16, class: u16) -> usize
@@ -151,22 +151,50 @@ pub fn cell_counts(tables: &[u16], work: &mut [u16], dim: usize, darts: usize) -
     counts
 }
 
+// The number of free pairs of one rank. The count and the loop are of a form that goes several darts at a time: an entry is read where the one rule has it.
+pub fn free_at(tables: &[u16], dim: usize, darts: usize, rank: usize) -> u16
+    requires { ⌜ Limits dim darts (now tables) × (rank ≤ dim) ⌝ }
+    ensures { λ r. ⌜ r ≡ countBelow darts (λ d. isFree dim darts (now (tables .entry)) (rank * darts + d)) ⌝ }
+{
+    let mut free: u16 = 0;
+    let mut d = 0;
+    while d < darts {
+        if tables[tables::place(dim, darts, rank, d)] == d as u16 {
+            free += 1;
+        }
+        d += 1;
+    }
+    free
+}
+
 // The number of free (rank, dart) pairs.
 pub fn free_pairs(tables: &[u16], dim: usize, darts: usize) -> u32
     requires { ⌜ Limits dim darts (now tables) ⌝ }
     ensures { λ r. ⌜ r ≡ freePairs dim darts (now (tables .entry)) ⌝ }
 {
-    let size = (dim + 1) * darts;
     let mut free: u32 = 0;
-    let mut k = 0;
-    while k < size {
-        let dart = (k % darts) as u16;
-        if tables::link(tables, dim, darts, k / darts, dart) == dart {
-            free += 1;
-        }
-        k += 1;
+    let mut rank = 0;
+    while rank <= dim {
+        free += free_at(tables, dim, darts, rank) as u32;
+        rank += 1;
     }
     free
+}
+
+// The first dart whose link of one rank stays within a class, or n.
+pub fn alike_at(tables: &[u16], work: &[u16], dim: usize, darts: usize, rank: usize) -> usize
+    requires { ⌜ Limits dim darts (now tables) × Valid dim darts (now tables) × (darts ≤ length (now work)) × (rank ≤ dim) ⌝ }
+    ensures { λ r. ⌜ r ≡ first (λ d. alike dim darts (now (tables .entry)) (now (work .entry)) (rank * darts + d)) darts ⌝ }
+{
+    let mut d = 0;
+    while d < darts {
+        let x = tables::link_at(tables, dim, darts, rank, d as u16) as usize;
+        if work[d] == work[x] {
+            return d;
+        }
+        d += 1;
+    }
+    d
 }
 
 // The first link, counted by rank, then dart, that stays within a class, or (N+1)·n.
@@ -174,17 +202,15 @@ pub fn first_alike(tables: &[u16], work: &[u16], dim: usize, darts: usize) -> us
     requires { ⌜ Limits dim darts (now tables) × Valid dim darts (now tables) × (darts ≤ length (now work)) ⌝ }
     ensures { λ r. ⌜ r ≡ first (alike dim darts (now (tables .entry)) (now (work .entry))) (size dim darts) ⌝ }
 {
-    let size = (dim + 1) * darts;
-    let mut k = 0;
-    while k < size {
-        let d = k % darts;
-        let x = tables::link(tables, dim, darts, k / darts, d as u16) as usize;
-        if work[d] == work[x] {
-            return k;
+    let mut rank = 0;
+    while rank <= dim {
+        let d = alike_at(tables, work, dim, darts, rank);
+        if d < darts {
+            return rank * darts + d;
         }
-        k += 1;
+        rank += 1;
     }
-    k
+    rank * darts
 }
 
 // Can the darts be put in two classes so that every ai takes each dart to the other? A flood from dart 0 by all ranks gives the only two that may do.
