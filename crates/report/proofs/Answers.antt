@@ -1,18 +1,29 @@
--- Laws of the report's answer: what the check's answer says of its verdict, and what the report then answers and leaves. Rests on the rules' Check.
-use Prim.Native.Nat.{ℕ, _*_, _≤_}
+-- Laws of the report's answer: what each test of the code says of the verdict, and what the report then answers and leaves.
+-- Rests on Spans, the walk's Verdicts and the rules' Check.
+use Prim.Native.Nat.{ℕ, _*_, _≤_, _<_}
 use mathlib.Core.Path.{_≡_, refl, ap, sym, _∙_}
 use mathlib.Core.Logic.{_≢_}
-use mathlib.Core.Bool.{Bool, false}
-use mathlib.Core.List.{List, _++_}
+use mathlib.Core.Bool.{Bool, true, false}
+use mathlib.Core.List.{List}
 use native.Mathlib.Omega.{arith}
-use lib.ListN.{length, replicate, drop, length-append, length-drop}
-use lib.Seq.{drop-at}
+use native.Mathlib.Decide.{ℕ-discrete}
+use lib.ListN.{length, getD, drop}
+use lib.Dec.{eqb}
+use borrow.Author.Tests.{eq-eqb, ne-eqb, lt-ltb, le-ltb}
 use Rattle.rules.specs.declared.CheckAnswer.{CheckAnswer}
 use Rattle.rules.specs.declared.ReportAnswer.{ReportAnswer}
-use Rattle.rules.specs.Map.{blank}
-use Rattle.rules.specs.Check.{Verdict, verdict, numbering, workAfter, checkAnswerOf, checkAnswer, checkWork}
-use Rattle.rules.specs.Report.{freePairs, orientable, cellCounts, reportAnswerOf, reportAnswer, reportWorkAfter, reportWork}
+use Rattle.rules.specs.Lists.{first}
+use Rattle.rules.specs.Map.{mark, blank, allRanks, reaches, Valid, Limits}
+use Rattle.rules.specs.Check.{Verdict, refuseIf, unreached, verdict, workAfter, checkAnswerOf, checkAnswer, checkWork}
+use Rattle.rules.specs.Report.{cellCounts, freePairs, orientable, reportAnswerOf, reportAnswer, reportWorkAfter, reportWork}
+use Rattle.rules.proofs.Lists.{not-both, first-before, getD-any}
+use Rattle.rules.proofs.Orbits.{Closed, valid-closed, reaches-reached, reached-reaches}
 use Rattle.rules.proofs.Check.{Case, Passes, refused-case, fine-passes}
+use Rattle.walk.specs.Numbers.{numberless, misfitOf, misbuiltOf}
+use Rattle.walk.proofs.Verdicts.{first-same, inspect-sizes, inspect-limits, inspect-tables, inspect-valid, tabled-on, check-by}
+use Rattle.report.specs.Answer.{refusalOf, countedOf}
+use Rattle.report.specs.Flood.{Spanned, AllMarked}
+use Rattle.report.proofs.Floods.{linked-reached}
 
 -- a refusal's number is not 0
 case-some : {N n root room nr p : ℕ} {t : List ℕ} → Case N n root t room nr p → nr ≢ 0
@@ -26,43 +37,73 @@ case-some (Case.inverse i d F) = omega arith
 case-some (Case.manifold k d F) = omega arith
 case-some (Case.unreachable d L) = omega arith
 
--- a check has answered r and left work room w'
-module _ (N n : ℕ) (t w w' : List ℕ) (r : CheckAnswer) (er : r ≡ checkAnswer N n 0 t w) (ew : w' ≡ checkWork N n 0 t w) where
-  pub report-refused : r .number ≢ 0 → (record { number = r .number; place = r .place; cells = replicate 7 0; free = 0; orientable = false } ≡ reportAnswer N n t w) × (w' ≡ reportWork N n t w)
-  unfolding checkAnswer checkAnswerOf checkWork workAfter reportAnswer reportAnswerOf reportWork reportWorkAfter
-  report-refused h = rw (ew, er) (go (verdict N n 0 t (length w)) (λ z. h (ap (λ (x : CheckAnswer). x .number) er ∙ z)))
-    where
-      go : (v : Verdict) → checkAnswerOf v .number ≢ 0
-          → (record { number = checkAnswerOf v .number; place = checkAnswerOf v .place; cells = replicate 7 0; free = 0; orientable = false } ≡ reportAnswerOf N n t v) × (workAfter N n 0 t w v ≡ reportWorkAfter n w v)
-      go Verdict.fine h = absurd (h refl)
-      go (Verdict.refused nr p) h = (refl, refl)
+-- a refusal that the check would give too
+refused-as : (N n : ℕ) (t w w' : List ℕ) (nr p : ℕ) → (record { number = nr; place = p } ≡ checkAnswer N n 0 t w) × (w' ≡ checkWork N n 0 t w) → nr ≢ 0 → (refusalOf nr p ≡ reportAnswer N n t w) × (w' ≡ reportWork N n t w)
+unfolding checkAnswer checkAnswerOf checkWork workAfter reportAnswer reportAnswerOf reportWork reportWorkAfter refusalOf
+refused-as N n t w w' nr p (e, f) h = rw f (go (verdict N n 0 t (length w)) e)
+  where
+    go : (v : Verdict) → record { number = nr; place = p } ≡ checkAnswerOf v → (refusalOf nr p ≡ reportAnswerOf N n t v) × (workAfter N n 0 t w v ≡ reportWorkAfter n w v)
+    go Verdict.fine e = absurd (h (ap (λ (x : CheckAnswer). x .number) e))
+    go (Verdict.refused nr' p') e = (rw (ap (λ (x : CheckAnswer). x .number) e, ap (λ (x : CheckAnswer). x .place) e), refl)
 
-  module _ (h : r .number ≡ 0) where
-    accepted : verdict N n 0 t (length w) ≡ Verdict.fine
-    unfolding checkAnswer checkAnswerOf
-    accepted = go (verdict N n 0 t (length w)) refl (sym (ap (λ (x : CheckAnswer). x .number) er) ∙ h)
-      where
-        go : (v : Verdict) → verdict N n 0 t (length w) ≡ v → checkAnswerOf v .number ≡ 0 → verdict N n 0 t (length w) ≡ Verdict.fine
-        go Verdict.fine e z = e
-        go (Verdict.refused nr p) e z = absurd (case-some (refused-case N n 0 t (length w) nr p e .0) z)
+-- the parts of a counted answer, and the work room blanked after them
+pub counted-parts : (N n : ℕ) (t counts : List ℕ) (free : ℕ) (o : Bool) → counts ≡ cellCounts N n t → free ≡ freePairs N n t → o ≡ orientable N n t → record { number = 0; place = 0; cells = counts; free = free; orientable = o } ≡ countedOf N n t
+unfolding countedOf
+counted-parts N n t counts free o ec ef eo = rw (ec, ef, eo)
 
-    pub report-passes : Passes N n 0 t (length w)
-    report-passes = fine-passes N n 0 t (length w) accepted
+pub blank-past : (k : ℕ) (w u v : List ℕ) → v ≡ blank k u → drop k u ≡ drop k w → v ≡ blank k w
+unfolding blank
+blank-past k w u v e p = e ∙ rw p
 
-    pub report-past : length w' ≡ length w → drop (2 * n) w' ≡ drop (2 * n) w
-    unfolding checkWork workAfter
-    report-past l =
-        let e : w' ≡ numbering N n 0 t ++ drop (2 * n) w = ew ∙ ap (workAfter N n 0 t w) accepted in
-        let z : length (numbering N n 0 t) ≡ 2 * n = omega (arith, report-passes .work, ap length e, length-append (numbering N n 0 t) (drop (2 * n) w), length-drop (2 * n) w) in
-        ap (drop (2 * n)) e ∙ drop-at (numbering N n 0 t) (drop (2 * n) w) (2 * n) z
+-- what the code did, step by step: k is what it found of the sizes, a of the tables
+module _ (N n : ℕ) (t w : List ℕ) (k : ℕ) (ek : k ≡ misfitOf N n 0 (length t) (length w)) where
+  pub report-sizes : (r : ReportAnswer) → r ≡ refusalOf k 0 → k ≢ 0 → (r ≡ reportAnswer N n t w) × (w ≡ reportWork N n t w)
+  report-sizes r e h = rw e (refused-as N n t w w k 0 (check-by N n 0 t w w _ (inspect-sizes N n 0 t w k ek h)) h)
 
-    pub report-fine : (counts : List ℕ) (free : ℕ) (o : Bool) → counts ≡ cellCounts N n t → free ≡ freePairs N n t → o ≡ orientable N n t → record { number = 0; place = 0; cells = counts; free = free; orientable = o } ≡ reportAnswer N n t w
-    unfolding reportAnswer reportAnswerOf
-    report-fine counts free o ec ef eo = rw (accepted, ec, ef, eo)
+  module _ (z : k ≡ 0) where
+    pub report-limits : Limits N n t × (2 * n ≤ length w) × (0 < n)
+    report-limits = inspect-limits N n 0 t w k ek z
 
-    pub report-blank : (u v : List ℕ) → v ≡ blank (2 * n) u → drop (2 * n) u ≡ drop (2 * n) w → v ≡ reportWork N n t w
-    unfolding reportWork reportWorkAfter blank
-    report-blank u v e p = e ∙ rw (accepted, p)
+    module _ (a : CheckAnswer) (ea : a ≡ misbuiltOf N n t) where
+      pub report-tables : (r : ReportAnswer) → r ≡ refusalOf (a .number) (a .place) → a .number ≢ 0 → (r ≡ reportAnswer N n t w) × (w ≡ reportWork N n t w)
+      report-tables r e h = rw e (refused-as N n t w w (a .number) (a .place) (check-by N n 0 t w w _ (inspect-tables N n 0 t w k ek z a ea h)) h)
+
+      module _ (y : a .number ≡ 0) where
+        pub report-valid : Valid N n t
+        report-valid = inspect-valid N n 0 t w k ek z a ea y
+
+        -- u is the work room where all that is reached is marked, d the first dart that is not
+        module _ (u : List ℕ) (S : Spanned N n t u) (room : n ≤ length u) (d : ℕ) (ed : d ≡ first (numberless u) n) where
+          pub report-marked : n ≤ d → AllMarked n u
+          report-marked h i l e =
+              let q = first-before (numberless u) n i (omega arith) in
+              not-both (numberless u i) (eq-eqb (getD u i mark) mark (getD-any u i mark 0 (omega arith) ∙ e)) q
+
+          found : d ≡ first (unreached N n t 0) n
+          unfolding unreached
+          found = ed ∙ first-same (numberless u) (unreached N n t 0) n (λ i l. rw (getD-any u i mark 0 (omega arith)) (same i l (ℕ-discrete (getD u i 0) mark) (reaches allRanks N n t 0 i) refl))
+            where
+              C : Closed N n t
+              C = valid-closed report-valid
+
+              same : (i : ℕ) → i < n → Dec (getD u i 0 ≡ mark) → (b : Bool) → reaches allRanks N n t 0 i ≡ b → eqb (getD u i 0) mark ≡ unreached N n t 0 i
+              same i l (yes e) false q = rw (q, eq-eqb (getD u i 0) mark e)
+              same i l (yes e) true q = absurd (S .reached i (reaches-reached allRanks N n t C 0 i (omega arith) l q) e)
+              same i l (no m) b q = rw (reached-reaches allRanks N n t C 0 i (omega arith) (linked-reached (S .linked i l m)), ne-eqb (getD u i 0) mark m)
+
+          -- u' is the work room at the end
+          module _ (u' : List ℕ) (eu : u' ≡ blank (2 * n) u) (past : drop (2 * n) u ≡ drop (2 * n) w) where
+            pub report-unreached : (r : ReportAnswer) → r ≡ refusalOf 9 d → d < n → (r ≡ reportAnswer N n t w) × (u' ≡ reportWork N n t w)
+            unfolding refuseIf reportAnswer reportAnswerOf reportWork reportWorkAfter refusalOf
+            report-unreached r e h =
+                let v : verdict N n 0 t (length w) ≡ Verdict.refused 9 d = tabled-on N n 0 t w k ek z a ea y ∙ rw (← found, lt-ltb d n h) in
+                rw v ((e, blank-past (2 * n) w u u' eu past))
+
+            pub report-counted : (r : ReportAnswer) → r ≡ countedOf N n t → n ≤ d → (r ≡ reportAnswer N n t w) × (u' ≡ reportWork N n t w)
+            unfolding refuseIf reportAnswer reportAnswerOf reportWork reportWorkAfter countedOf
+            report-counted r e h =
+                let v : verdict N n 0 t (length w) ≡ Verdict.fine = tabled-on N n 0 t w k ek z a ea y ∙ rw (← found, le-ltb d n h) in
+                rw v ((e, blank-past (2 * n) w u u' eu past))
 
 -- a report with number 0 is of a map that passes every test
 pub reported : (N n : ℕ) (t w : List ℕ) (a : ReportAnswer) → a ≡ reportAnswer N n t w → a .number ≡ 0 → Passes N n 0 t (length w)

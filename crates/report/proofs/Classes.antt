@@ -18,7 +18,7 @@ use Rattle.rules.proofs.Lists.{Sought, sought-start, first-le, first-passes, fi
 use Rattle.rules.proofs.Places.{nth-rank, nth-dart, nth-below, rank-nth, dart-nth}
 use Rattle.rules.proofs.Orbits.{valid-closed, reached-below}
 use Rattle.rules.proofs.Cells.{Orientable, orientable-sound, orientable-complete}
-use Rattle.report.specs.Flood.{Marked, Linked, Spanned, alike}
+use Rattle.report.specs.Flood.{Linked, Spanned, AllMarked, alike}
 use Rattle.report.proofs.Floods.{linked-two, linked-reached}
 
 -- the class that a dart has by the number of links from a dart of class b
@@ -72,7 +72,7 @@ linked-class v O h Linked.here = refl
 linked-class {s = s} v O h (Linked.onward {e} {m} i hi k r) = O .other i e hi (reached-below (valid-closed v) h (linked-reached r)) ∙ (ap not (linked-class v O h r) ∙ sym (turn-next m (O .class s) (linked-two (omega arith) r)))
 
 -- every dart has a class
-module _ {N n : ℕ} {t w : List ℕ} (v : Valid N n t) (h1 : 1 ≤ n) (S : Spanned N n t w) (all : (d : ℕ) → d < n → Marked w d) where
+module _ {N n : ℕ} {t w : List ℕ} (v : Valid N n t) (h1 : 1 ≤ n) (S : Spanned N n t w) (all : AllMarked n w) where
   linked-all : (d : ℕ) → d < n → Linked allRanks N n t 0 0 d (getD w d 0)
   linked-all d h = S .linked d h (all d h)
 

@@ -69,6 +69,10 @@ pub record Spanned (N n : ℕ) (t w : List ℕ) : Type 0 where
   pub linked : (d : ℕ) → d < n → Marked w d → Linked allRanks N n t 0 0 d (getD w d 0)
   pub reached : (d : ℕ) → Reached allRanks N n t 0 d → Marked w d
 
+-- every dart has a class
+abbrev pub AllMarked : ℕ → List ℕ → Type 0
+AllMarked n w = (d : ℕ) → d < n → Marked w d
+
 -- the k-th link, by rank, then dart, is a free pair's
 unfoldable pub isFree : ℕ → ℕ → List ℕ → ℕ → Bool
 isFree N n t k = eqb (link N n t (k / n) (k % n)) (k % n)

@@ -6,9 +6,10 @@ ghost use mathlib.Core.Path.{_≡_};
 ghost use Prim.Native.Nat.{_+_, _*_, _-_, _≤_, _<_};
 ghost use lib.ListN.{length, getD, drop};
 ghost use Rattle.rules.specs.Lists.{countBelow, first};
-ghost use Rattle.rules.specs.Map.{Limits, Valid, Connected, size, link, allBut};
+ghost use Rattle.rules.specs.Map.{Limits, Valid, size, link, blank, allBut};
 ghost use Rattle.rules.specs.Report.{cellCounts, freePairs, reportAnswer, reportWork};
-ghost use Rattle.report.specs.Flood.{enteredRoom, enteredTail, Queue, between, Around, Grown, Flooded, isFree, alike};
+ghost use Rattle.report.specs.Answer.{refusalOf, countedOf};
+ghost use Rattle.report.specs.Flood.{enteredRoom, enteredTail, Queue, between, Around, Grown, Flooded, Spanned, AllMarked, isFree, alike};
 
 // A dart that has no mark gets its class and enters the queue. The answer is the queue's length.
 pub fn enter(work: &mut [u16], darts: usize, tail: usize, dart: u16, class: u16) -> usize
@@ -213,34 +214,37 @@ pub fn first_alike(tables: &[u16], work: &[u16], dim: usize, darts: usize) -> us
     rank * darts
 }
 
-// Can the darts be put in two classes so that every ai takes each dart to the other? A flood from dart 0 by all ranks gives the only two that may do.
-pub fn orientable(tables: &[u16], work: &mut [u16], dim: usize, darts: usize) -> bool
-    requires { ⌜ Limits dim darts (now tables) × Valid dim darts (now tables) × Connected dim darts (now tables) 0 × (2 * darts ≤ length (now work)) ⌝ }
-    ensures { λ r. ⌜ (r ≡ Rattle.rules.specs.Report.orientable dim darts (now (tables .entry))) × (drop (2 * darts) (now (work .exit)) ≡ drop (2 * darts) (now (work .entry))) ⌝ }
+// All that is reached from dart 0 is marked; its class says by how many links.
+pub fn span(tables: &[u16], work: &mut [u16], dim: usize, darts: usize)
+    requires { ⌜ Limits dim darts (now tables) × Valid dim darts (now tables) × (2 * darts ≤ length (now work)) ⌝ }
+    ensures { λ r. ⌜ Spanned dim darts (now (tables .entry)) (now (work .exit)) × (drop (2 * darts) (now (work .exit)) ≡ drop (2 * darts) (now (work .entry))) ⌝ }
 {
     tables::blank(work, 2 * darts);
     flood(tables, work, dim, darts, dim + 1, 0, 0, 0);
-    let size = (dim + 1) * darts;
-    first_alike(tables, work, dim, darts) == size
 }
 
-// The cell report of posted tables.
-pub fn report(dim: usize, darts: usize, tables: &[u16], work: &mut [u16]) -> ReportAnswer
-    ensures { λ r. ⌜ (r ≡ reportAnswer dim darts (now (tables .entry)) (now (work .entry))) × (now (work .exit) ≡ reportWork dim darts (now (tables .entry)) (now (work .entry))) ⌝ }
+// A refusal: all counts are 0.
+pub fn refusal(number: u32, place: u32) -> ReportAnswer
+    ensures { λ r. ⌜ r ≡ refusalOf number place ⌝ }
 {
-    let c = walk::check(dim, darts, 0, tables, work);
-    if c.number != 0 {
-        return ReportAnswer {
-            number: c.number,
-            place: c.place,
-            cells: [0u32; 7],
-            free: 0,
-            orientable: false,
-        };
+    ReportAnswer {
+        number,
+        place,
+        cells: [0u32; 7],
+        free: 0,
+        orientable: false,
     }
+}
+
+// The answer for a connected map. If any two classes do, those by the number of links from dart 0 do, so the first link that stays within a class tells.
+pub fn counted(tables: &[u16], work: &mut [u16], dim: usize, darts: usize) -> ReportAnswer
+    requires { ⌜ Limits dim darts (now tables) × Valid dim darts (now tables) × (2 * darts ≤ length (now work)) × Spanned dim darts (now tables) (now work) × AllMarked darts (now work) ⌝ }
+    ensures { λ r. ⌜ (r ≡ countedOf dim darts (now (tables .entry))) × (now (work .exit) ≡ blank (2 * darts) (now (work .entry))) ⌝ }
+{
+    let size = (dim + 1) * darts;
+    let orientable = first_alike(tables, work, dim, darts) == size;
     let cells = cell_counts(tables, work, dim, darts);
     let free = free_pairs(tables, dim, darts);
-    let orientable = orientable(tables, work, dim, darts);
     tables::blank(work, 2 * darts);
     ReportAnswer {
         number: 0,
@@ -249,4 +253,25 @@ pub fn report(dim: usize, darts: usize, tables: &[u16], work: &mut [u16]) -> Rep
         free,
         orientable,
     }
+}
+
+// The cell report of posted tables. What is reached from dart 0 serves refusal 9 and the two classes.
+pub fn report(dim: usize, darts: usize, tables: &[u16], work: &mut [u16]) -> ReportAnswer
+    ensures { λ r. ⌜ (r ≡ reportAnswer dim darts (now (tables .entry)) (now (work .entry))) × (now (work .exit) ≡ reportWork dim darts (now (tables .entry)) (now (work .entry))) ⌝ }
+{
+    let first = walk::misfit(dim, darts, 0, tables.len(), work.len());
+    if first != 0 {
+        return refusal(first, 0);
+    }
+    let next = walk::misbuilt(tables, dim, darts);
+    if next.number != 0 {
+        return refusal(next.number, next.place);
+    }
+    span(tables, work, dim, darts);
+    let d = walk::first_unnumbered(work, darts);
+    if d < darts {
+        tables::blank(work, 2 * darts);
+        return refusal(9, d as u32);
+    }
+    counted(tables, work, dim, darts)
 }

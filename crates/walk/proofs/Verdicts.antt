@@ -203,7 +203,7 @@ scan-same f g (suc k) a h = go (scan-same f g k (suc a) (λ i l m. h i (omega ar
     go r true q = rw (scan, e, q)
     go r false q = rw (scan, e, q) r
 
-first-same : (f g : ℕ → Bool) (k : ℕ) → ((i : ℕ) → i < k → f i ≡ g i) → first f k ≡ first g k
+pub first-same : (f g : ℕ → Bool) (k : ℕ) → ((i : ℕ) → i < k → f i ≡ g i) → first f k ≡ first g k
 unfolding first
 first-same f g k h = scan-same f g k 0 (λ i l m. h i (omega arith))
 
@@ -216,7 +216,7 @@ unfolding byTables refuseIf
 by-tables-some a v h = rw (ne-eqb (a .number) 0 h)
 
 -- the verdict of the numbering
-abbrev numbered-verdict : ℕ → ℕ → ℕ → List ℕ → Verdict
+abbrev pub numbered-verdict : ℕ → ℕ → ℕ → List ℕ → Verdict
 numbered-verdict N n root t = refuseIf (ltb (first (unreached N n t root) n) n) 9 (first (unreached N n t root) n) Verdict.fine
 
 -- the names are darts, so there are at most n
@@ -287,7 +287,7 @@ module _ (N n root : ℕ) (t work : List ℕ) (k : ℕ) (ek : k ≡ misfitOf N n
               manifold = cleared p8 (tells-pairs N n t (inspect-limits .0 .dims .1));
             }
 
-        tabled-on : verdict N n root t (length work) ≡ numbered-verdict N n root t
+        pub tabled-on : verdict N n root t (length work) ≡ numbered-verdict N n root t
         tabled-on = sized-on ∙ (tabled ∙ by-tables-none a (numbered-verdict N n root t) y)
 
         module _ (w : List ℕ) (ew : w ≡ roomOf n (namesOf N n t root) work) (d : ℕ) (ed : d ≡ first (numberless w) n) where
