@@ -73,7 +73,7 @@ module _ (N n : ℕ) (t w : List ℕ) (k : ℕ) (ek : k ≡ misfitOf N n 0 (leng
         report-valid = inspect-valid N n 0 t w k ek z a ea y
 
         -- u is the work room where all that is reached is marked, d the first dart that is not
-        module _ (u : List ℕ) (S : Spanned N n t u) (room : n ≤ length u) (d : ℕ) (ed : d ≡ first (numberless u) n) where
+        module _ (u : List ℕ) (top : ℕ) (S : Spanned N n t top u) (room : n ≤ length u) (d : ℕ) (ed : d ≡ first (numberless u) n) where
           pub report-marked : n ≤ d → AllMarked n u
           report-marked h i l e =
               let q = first-before (numberless u) n i (omega arith) in

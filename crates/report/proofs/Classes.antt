@@ -72,7 +72,7 @@ linked-class v O h Linked.here = refl
 linked-class {s = s} v O h (Linked.onward {e} {m} i hi k r) = O .other i e hi (reached-below (valid-closed v) h (linked-reached r)) ∙ (ap not (linked-class v O h r) ∙ sym (turn-next m (O .class s) (linked-two (omega arith) r)))
 
 -- every dart has a class
-module _ {N n : ℕ} {t w : List ℕ} (v : Valid N n t) (h1 : 1 ≤ n) (S : Spanned N n t w) (all : AllMarked n w) where
+module _ {N n top : ℕ} {t w : List ℕ} (v : Valid N n t) (h1 : 1 ≤ n) (S : Spanned N n t top w) (all : AllMarked n w) where
   linked-all : (d : ℕ) → d < n → Linked allRanks N n t 0 0 d (getD w d 0)
   linked-all d h = S .linked d h (all d h)
 

@@ -310,7 +310,7 @@ unfolding blank
 class-blank n w d h = List·getD-append (replicate (2 * n) mark) (drop (2 * n) w) 0 d (simp length-replicate (omega arith)) ∙ getD-replicate (2 * n) d mark 0 (omega arith)
 
 module _ (n : ℕ) (w w' : List ℕ) (e : w' ≡ blank (2 * n) w) where
-  class-blanked : (d : ℕ) → d < n → getD w' d 0 ≡ mark
+  pub class-blanked : (d : ℕ) → d < n → getD w' d 0 ≡ mark
   class-blanked d h = rw e (class-blank n w d h)
 
   pub queue-blanked : Queue n 0 w'

@@ -9,7 +9,13 @@ ghost use Rattle.rules.specs.Lists.{countBelow, first};
 ghost use Rattle.rules.specs.Map.{Limits, Valid, size, link, blank, allBut};
 ghost use Rattle.rules.specs.Report.{cellCounts, freePairs, reportAnswer, reportWork};
 ghost use Rattle.report.specs.Answer.{refusalOf, countedOf};
-ghost use Rattle.report.specs.Flood.{enteredRoom, enteredTail, Queue, between, Around, Grown, Flooded, Spanned, AllMarked, isFree, alike};
+ghost use Rattle.report.specs.Flood.{enteredRoom, enteredTail, Queue, between, Around, Grown, Flooded, Spun, Spanned, AllMarked, isFree, alike};
+
+// Where the marking of all that is reached from dart 0 stands: the queue's length and how many N-cells are marked.
+pub struct Spanning {
+    pub tail: usize,
+    pub cells: u32,
+}
 
 // A dart that has no mark gets its class and enters the queue. The answer is the queue's length.
 pub fn enter(work: &mut [u16], darts: usize, tail: usize, dart: u16, class: u16) -> usize
@@ -77,7 +83,7 @@ pub fn spread(
     tail: usize,
     dart: u16,
 ) -> usize
-    requires { ⌜ Limits dim darts (now tables) × Valid dim darts (now tables) × Queue darts tail (now work) × (skip ≤ dim + 1) × (dart < darts) × (getD (now work) dart 0 < 2) ⌝ }
+    requires { ⌜ Limits dim darts (now tables) × Valid dim darts (now tables) × Queue darts tail (now work) × (skip ≤ dim) × (dart < darts) × (getD (now work) dart 0 < 2) ⌝ }
     ensures { λ r. ⌜ Grown (allBut skip) dim darts (now (tables .entry)) tail r (now (work .entry)) (now (work .exit)) × Around (allBut skip) dim darts (now (tables .entry)) dart (now (work .exit)) ⌝ }
 {
     let class = 1 - work[dart as usize];
@@ -106,7 +112,7 @@ pub fn flood(
     dart: u16,
     class: u16,
 ) -> usize
-    requires { ⌜ Limits dim darts (now tables) × Valid dim darts (now tables) × Queue darts tail (now work) × (skip ≤ dim + 1) × (dart < darts) × (class < 2) ⌝ }
+    requires { ⌜ Limits dim darts (now tables) × Valid dim darts (now tables) × Queue darts tail (now work) × (skip ≤ dim) × (dart < darts) × (class < 2) ⌝ }
     ensures { λ r. ⌜ Flooded (allBut skip) dim darts (now (tables .entry)) dart class tail r (now (work .entry)) (now (work .exit)) ⌝ }
 {
     let mut end = enter(work, darts, tail, dart, class);
@@ -138,17 +144,18 @@ pub fn cells(tables: &[u16], work: &mut [u16], dim: usize, darts: usize, skip: u
     found
 }
 
-// The number of cells of each rank; past N it is 0.
-pub fn cell_counts(tables: &[u16], work: &mut [u16], dim: usize, darts: usize) -> [u32; 7]
-    requires { ⌜ Limits dim darts (now tables) × Valid dim darts (now tables) × (2 * darts ≤ length (now work)) ⌝ }
+// The number of cells of each rank; past N it is 0. That of rank N is given.
+pub fn cell_counts(tables: &[u16], work: &mut [u16], dim: usize, darts: usize, top: u32) -> [u32; 7]
+    requires { ⌜ Limits dim darts (now tables) × Valid dim darts (now tables) × (2 * darts ≤ length (now work)) × (top ≡ Rattle.rules.specs.Report.cells dim darts (now tables) dim) ⌝ }
     ensures { λ r. ⌜ (r ≡ cellCounts dim darts (now (tables .entry))) × (drop (2 * darts) (now (work .exit)) ≡ drop (2 * darts) (now (work .entry))) ⌝ }
 {
     let mut counts = [0u32; 7];
     let mut i = 0;
-    while i <= dim {
+    while i < dim {
         counts[i] = cells(tables, work, dim, darts, i);
         i += 1;
     }
+    counts[dim] = top;
     counts
 }
 
@@ -214,13 +221,45 @@ pub fn first_alike(tables: &[u16], work: &[u16], dim: usize, darts: usize) -> us
     rank * darts
 }
 
-// All that is reached from dart 0 is marked; its class says by how many links.
-pub fn span(tables: &[u16], work: &mut [u16], dim: usize, darts: usize)
+// The dart of the queue at `head`: where its aN has no mark, an N-cell begins there, and a flood by all other ranks marks it.
+pub fn span_step(
+    tables: &[u16],
+    work: &mut [u16],
+    dim: usize,
+    darts: usize,
+    head: usize,
+    s: Spanning,
+) -> Spanning
+    requires { ⌜ Limits dim darts (now tables) × Valid dim darts (now tables) × (head < s .tail) × Spun dim darts (now tables) head (s .tail) (s .cells) (now work) ⌝ }
+    ensures { λ r. ⌜ Spun dim darts (now (tables .entry)) (head + 1) (r .tail) (r .cells) (now (work .exit)) × (drop (2 * darts) (now (work .exit)) ≡ drop (2 * darts) (now (work .entry))) ⌝ }
+{
+    let d = work[darts + head];
+    let x = tables::link_at(tables, dim, darts, dim, d);
+    if work[x as usize] != Session::NO_LINK {
+        return s;
+    }
+    let class = 1 - work[d as usize];
+    let tail = flood(tables, work, dim, darts, dim, s.tail, x, class);
+    Spanning {
+        tail,
+        cells: s.cells + 1,
+    }
+}
+
+// All that is reached from dart 0 is marked, one N-cell after another; a class says by how many links. The answer is the number of those N-cells.
+pub fn span(tables: &[u16], work: &mut [u16], dim: usize, darts: usize) -> u32
     requires { ⌜ Limits dim darts (now tables) × Valid dim darts (now tables) × (2 * darts ≤ length (now work)) ⌝ }
-    ensures { λ r. ⌜ Spanned dim darts (now (tables .entry)) (now (work .exit)) × (drop (2 * darts) (now (work .exit)) ≡ drop (2 * darts) (now (work .entry))) ⌝ }
+    ensures { λ r. ⌜ Spanned dim darts (now (tables .entry)) r (now (work .exit)) × (drop (2 * darts) (now (work .exit)) ≡ drop (2 * darts) (now (work .entry))) ⌝ }
 {
     tables::blank(work, 2 * darts);
-    flood(tables, work, dim, darts, dim + 1, 0, 0, 0);
+    let tail = flood(tables, work, dim, darts, dim, 0, 0, 0);
+    let mut s = Spanning { tail, cells: 1 };
+    let mut head = 0;
+    while head < s.tail {
+        s = span_step(tables, work, dim, darts, head, s);
+        head += 1;
+    }
+    s.cells
 }
 
 // A refusal: all counts are 0.
@@ -237,13 +276,13 @@ pub fn refusal(number: u32, place: u32) -> ReportAnswer
 }
 
 // The answer for a connected map. If any two classes do, those by the number of links from dart 0 do, so the first link that stays within a class tells.
-pub fn counted(tables: &[u16], work: &mut [u16], dim: usize, darts: usize) -> ReportAnswer
-    requires { ⌜ Limits dim darts (now tables) × Valid dim darts (now tables) × (2 * darts ≤ length (now work)) × Spanned dim darts (now tables) (now work) × AllMarked darts (now work) ⌝ }
+pub fn counted(tables: &[u16], work: &mut [u16], dim: usize, darts: usize, top: u32) -> ReportAnswer
+    requires { ⌜ Limits dim darts (now tables) × Valid dim darts (now tables) × (2 * darts ≤ length (now work)) × Spanned dim darts (now tables) top (now work) × AllMarked darts (now work) ⌝ }
     ensures { λ r. ⌜ (r ≡ countedOf dim darts (now (tables .entry))) × (now (work .exit) ≡ blank (2 * darts) (now (work .entry))) ⌝ }
 {
     let size = (dim + 1) * darts;
     let orientable = first_alike(tables, work, dim, darts) == size;
-    let cells = cell_counts(tables, work, dim, darts);
+    let cells = cell_counts(tables, work, dim, darts, top);
     let free = free_pairs(tables, dim, darts);
     tables::blank(work, 2 * darts);
     ReportAnswer {
@@ -255,7 +294,7 @@ pub fn counted(tables: &[u16], work: &mut [u16], dim: usize, darts: usize) -> Re
     }
 }
 
-// The cell report of posted tables. What is reached from dart 0 serves refusal 9 and the two classes.
+// The cell report of posted tables. What is reached from dart 0 serves refusal 9, the two classes and the number of N-cells.
 pub fn report(dim: usize, darts: usize, tables: &[u16], work: &mut [u16]) -> ReportAnswer
     ensures { λ r. ⌜ (r ≡ reportAnswer dim darts (now (tables .entry)) (now (work .entry))) × (now (work .exit) ≡ reportWork dim darts (now (tables .entry)) (now (work .entry))) ⌝ }
 {
@@ -267,11 +306,11 @@ pub fn report(dim: usize, darts: usize, tables: &[u16], work: &mut [u16]) -> Rep
     if next.number != 0 {
         return refusal(next.number, next.place);
     }
-    span(tables, work, dim, darts);
+    let top = span(tables, work, dim, darts);
     let d = walk::first_unnumbered(work, darts);
     if d < darts {
         tables::blank(work, 2 * darts);
         return refusal(9, d as u32);
     }
-    counted(tables, work, dim, darts)
+    counted(tables, work, dim, darts, top)
 }

@@ -1,4 +1,4 @@
--- `report::cell_counts` meets its contract: after i turns the counts of the ranks below i are there, and the others are 0. Assumes nothing.
+-- `report::cell_counts` meets its contract: after i turns the counts of the ranks below i are there, and the others are 0; that of rank N comes last. Assumes nothing.
 use Prim.Native.Nat.{_+_, _*_, _-_, _≤_}
 use mathlib.Core.Path.{_≡_, refl, _∙_}
 use native.Mathlib.Omega.{arith}
@@ -8,11 +8,11 @@ use Rattle.report.proofs.cell_counts.Statement.{statement}
 use Rattle.report.proofs.cell_counts.Tie as tie
 
 abbrev Inv-loop : tie.InvT-loop
-Inv-loop tables work₀ dim darts counts₀ i₀ work counts i =
-    (length work ≡ length work₀) × (i ≤ dim + 1) × Tallied dim darts tables i counts × (drop (2 * darts) work ≡ drop (2 * darts) work₀)
+Inv-loop tables work₀ dim darts top counts₀ i₀ work counts i =
+    (length work ≡ length work₀) × (i ≤ dim) × Tallied dim darts tables i counts × (drop (2 * darts) work ≡ drop (2 * darts) work₀)
 
 abbrev μ-loop : tie.MeasureT-loop
-μ-loop tables work₀ dim darts counts₀ i₀ work counts i = dim + 1 - i
+μ-loop tables work₀ dim darts top counts₀ i₀ work counts i = dim - i
 
 loop-holds : tie.Need-loop-holds Inv-loop μ-loop
 loop-holds c = (refl, omega arith, tallied-start _ _ _, refl)
@@ -40,13 +40,21 @@ loop-again c =
     let k = c .before .before .cells in
     (k .kept .1 .0 ∙ l .inv .0, omega arith, tallied-next (l .inv .2) _ (omega arith) (k .ensures .0), k .ensures .1 ∙ l .inv .3)
 
+mul-counts-2 : tie.Need-mul-counts-2 Inv-loop μ-loop
+mul-counts-2 c = omega arith
+
+array-write-counts-2 : tie.Need-array-write-counts-2 Inv-loop μ-loop
+array-write-counts-2 c = let R = c .before .loop .inv .2 in omega arith
+
 same-length : tie.Need-same-length Inv-loop μ-loop
 same-length c = c .before .loop .inv .0
 
 returns : tie.Need-returns Inv-loop μ-loop
 returns c =
+    let s = c .before .before .before .before in
     let l = c .before .loop in
-    (tallied-end (l .inv .2) (omega arith), l .inv .3)
+    let z : l .i ≡ s .args .dim = omega arith in
+    (tallied-end (tallied-next (rw z at (l .inv .2)) _ (omega arith) (s .pre .3)) refl, l .inv .3)
 
 pub cell-counts-spec : {M : Type 1} → statement M
-cell-counts-spec = tie.close (tie.spec Inv-loop μ-loop loop-holds cells-requires mul-counts array-write-counts add-i loop-less loop-again same-length returns)
+cell-counts-spec = tie.close (tie.spec Inv-loop μ-loop loop-holds cells-requires mul-counts array-write-counts add-i loop-less loop-again mul-counts-2 array-write-counts-2 same-length returns)

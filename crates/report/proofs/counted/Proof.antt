@@ -18,7 +18,9 @@ first-alike-requires : tie.Need-first-alike-requires
 first-alike-requires c κs = search needs
 
 cell-counts-requires : tie.Need-cell-counts-requires
-cell-counts-requires c κs = search needs
+cell-counts-requires c κs =
+    let p = c .before .before .before .before .before .pre in
+    (p .0, p .1, omega arith, p .3 .counted (p .4))
 
 free-pairs-requires : tie.Need-free-pairs-requires
 free-pairs-requires c κs = search needs

@@ -75,7 +75,7 @@ returns-3 c =
     let a = g .before .before .before .before .before .before .before .args in
     let l = report-limits (a .dim) (a .darts) (a .tables .now) (a .work .now) _ (g .before .before .before .before .misfit .ensures) (g .before .before .before .if1 .left) in
     let s = c .before .before .before .before .before .before .before .before .before .before .span in
-    report-unreached (a .dim) (a .darts) (a .tables .now) (a .work .now) _ (g .before .before .before .before .misfit .ensures) (g .before .before .before .if1 .left) _ (g .before .before .misbuilt .ensures) (g .if2 .left) _ (s .ensures .0) (omega (arith, l .1, s .kept .1 .0)) _ (c .before .before .before .before .before .before .first-unnumbered .ensures) _ (c .before .before .before .blank .ensures) (s .ensures .1) _ (c .refusal3 .ensures) (c .before .before .before .before .before .if3 .taken)
+    report-unreached (a .dim) (a .darts) (a .tables .now) (a .work .now) _ (g .before .before .before .before .misfit .ensures) (g .before .before .before .if1 .left) _ (g .before .before .misbuilt .ensures) (g .if2 .left) _ _ (s .ensures .0) (omega (arith, l .1, s .kept .1 .0)) _ (c .before .before .before .before .before .before .first-unnumbered .ensures) _ (c .before .before .before .blank .ensures) (s .ensures .1) _ (c .refusal3 .ensures) (c .before .before .before .before .before .if3 .taken)
 
 counted-requires : tie.Need-counted-requires
 counted-requires c κs =
@@ -83,7 +83,7 @@ counted-requires c κs =
     let a = g .before .before .before .before .before .before .before .args in
     let l = report-limits (a .dim) (a .darts) (a .tables .now) (a .work .now) _ (g .before .before .before .before .misfit .ensures) (g .before .before .before .if1 .left) in
     let s = c .before .before .before .before .before .before .span in
-    (l .0, report-valid (a .dim) (a .darts) (a .tables .now) (a .work .now) _ (g .before .before .before .before .misfit .ensures) (g .before .before .before .if1 .left) _ (g .before .before .misbuilt .ensures) (g .if2 .left), omega (arith, l .1, s .kept .1 .0), s .ensures .0, report-marked (a .dim) (a .darts) (a .tables .now) (a .work .now) _ (g .before .before .before .before .misfit .ensures) (g .before .before .before .if1 .left) _ (g .before .before .misbuilt .ensures) (g .if2 .left) _ (s .ensures .0) (omega (arith, l .1, s .kept .1 .0)) _ (c .before .before .first-unnumbered .ensures) (c .before .if3 .left))
+    (l .0, report-valid (a .dim) (a .darts) (a .tables .now) (a .work .now) _ (g .before .before .before .before .misfit .ensures) (g .before .before .before .if1 .left) _ (g .before .before .misbuilt .ensures) (g .if2 .left), omega (arith, l .1, s .kept .1 .0), s .ensures .0, report-marked (a .dim) (a .darts) (a .tables .now) (a .work .now) _ (g .before .before .before .before .misfit .ensures) (g .before .before .before .if1 .left) _ (g .before .before .misbuilt .ensures) (g .if2 .left) _ _ (s .ensures .0) (omega (arith, l .1, s .kept .1 .0)) _ (c .before .before .first-unnumbered .ensures) (c .before .if3 .left))
 
 same-length-2 : tie.Need-same-length-2
 same-length-2 c = search needs
@@ -95,7 +95,7 @@ returns-4 c =
     let l = report-limits (a .dim) (a .darts) (a .tables .now) (a .work .now) _ (g .before .before .before .before .misfit .ensures) (g .before .before .before .if1 .left) in
     let s = c .before .before .before .before .before .before .before .before .before .span in
     let k = c .before .before .counted in
-    report-counted (a .dim) (a .darts) (a .tables .now) (a .work .now) _ (g .before .before .before .before .misfit .ensures) (g .before .before .before .if1 .left) _ (g .before .before .misbuilt .ensures) (g .if2 .left) _ (s .ensures .0) (omega (arith, l .1, s .kept .1 .0)) _ (c .before .before .before .before .before .first-unnumbered .ensures) _ (k .ensures .1) (s .ensures .1) _ (k .ensures .0) (c .before .before .before .before .if3 .left)
+    report-counted (a .dim) (a .darts) (a .tables .now) (a .work .now) _ (g .before .before .before .before .misfit .ensures) (g .before .before .before .if1 .left) _ (g .before .before .misbuilt .ensures) (g .if2 .left) _ _ (s .ensures .0) (omega (arith, l .1, s .kept .1 .0)) _ (c .before .before .before .before .before .first-unnumbered .ensures) _ (k .ensures .1) (s .ensures .1) _ (k .ensures .0) (c .before .before .before .before .if3 .left)
 
 pub report-spec : {M : Type 1} → statement M
 report-spec = tie.close (tie.spec misfit-requires refusal-requires returns misbuilt-requires refusal-requires-2 returns-2 span-requires first-unnumbered-requires mul-blank blank-requires cast-refusal refusal-requires-3 same-length returns-3 counted-requires same-length-2 returns-4)
