@@ -20,7 +20,7 @@ use Rattle.rules.proofs.Lists.{not-both, first-before, getD-any}
 use Rattle.rules.proofs.Orbits.{Closed, valid-closed, reaches-reached, reached-reaches}
 use Rattle.rules.proofs.Check.{Case, Passes, refused-case, fine-passes}
 use Rattle.walk.specs.Numbers.{numberless, misfitOf, misbuiltOf}
-use Rattle.walk.proofs.Verdicts.{first-same, inspect-sizes, inspect-limits, inspect-tables, inspect-valid, tabled-on, check-by}
+use Rattle.walk.proofs.Verdicts.{first-same, inspect-sizes, inspect-limits, inspect-tables, inspect-valid, tabled-on}
 use Rattle.report.specs.Answer.{refusalOf, countedOf}
 use Rattle.report.specs.Flood.{Spanned, AllMarked}
 use Rattle.report.proofs.Floods.{linked-reached}
@@ -58,7 +58,7 @@ blank-past k w u v e p = e ∙ rw p
 -- what the code did, step by step: k is what it found of the sizes, a of the tables
 module _ (N n : ℕ) (t w : List ℕ) (k : ℕ) (ek : k ≡ misfitOf N n 0 (length t) (length w)) where
   pub report-sizes : (r : ReportAnswer) → r ≡ refusalOf k 0 → k ≢ 0 → (r ≡ reportAnswer N n t w) × (w ≡ reportWork N n t w)
-  report-sizes r e h = rw e (refused-as N n t w w k 0 (check-by N n 0 t w w _ (inspect-sizes N n 0 t w k ek h)) h)
+  report-sizes r e h = rw e (refused-as N n t w w k 0 (inspect-sizes N n 0 t w k ek h) h)
 
   module _ (z : k ≡ 0) where
     pub report-limits : Limits N n t × (2 * n ≤ length w) × (0 < n)
@@ -66,7 +66,7 @@ module _ (N n : ℕ) (t w : List ℕ) (k : ℕ) (ek : k ≡ misfitOf N n 0 (leng
 
     module _ (a : CheckAnswer) (ea : a ≡ misbuiltOf N n t) where
       pub report-tables : (r : ReportAnswer) → r ≡ refusalOf (a .number) (a .place) → a .number ≢ 0 → (r ≡ reportAnswer N n t w) × (w ≡ reportWork N n t w)
-      report-tables r e h = rw e (refused-as N n t w w (a .number) (a .place) (check-by N n 0 t w w _ (inspect-tables N n 0 t w k ek z a ea h)) h)
+      report-tables r e h = rw e (refused-as N n t w w (a .number) (a .place) (inspect-tables N n 0 t w k ek z a ea h) h)
 
       module _ (y : a .number ≡ 0) where
         pub report-valid : Valid N n t

@@ -21,11 +21,11 @@ use Rattle.report.specs.Flood.{Marked, Queue, Linked, Settled, Longer, F
 use Rattle.report.proofs.Floods.{longer-marked, reached-marked, linked-reached, flooded-longer, flooded-started, flooded-traced, flooded-settled, queue-blanked, none-blanked}
 
 -- one number more below the bound
-pub count-yes : (f : ℕ → Bool) (k : ℕ) → f k ≡ true → countBelow (k + 1) f ≡ countBelow k f + 1
+count-yes : (f : ℕ → Bool) (k : ℕ) → f k ≡ true → countBelow (k + 1) f ≡ countBelow k f + 1
 unfolding countBelow
 count-yes f k q = let e : k + 1 ≡ suc k = omega arith in rw (e, q) (omega arith)
 
-pub count-no : (f : ℕ → Bool) (k : ℕ) → f k ≡ false → countBelow (k + 1) f ≡ countBelow k f
+count-no : (f : ℕ → Bool) (k : ℕ) → f k ≡ false → countBelow (k + 1) f ≡ countBelow k f
 unfolding countBelow
 count-no f k q = let e : k + 1 ≡ suc k = omega arith in rw (e, q) (omega arith)
 

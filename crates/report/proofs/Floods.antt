@@ -105,7 +105,7 @@ longer-refl Q = record { queue = Q; longer = omega arith; past = refl; kept = λ
 pub longer-marked : {n tail tail' d : ℕ} {w w' : List ℕ} → Longer n tail tail' w w' → d < n → Marked w d → Marked w' d
 longer-marked {d = d} L h m = λ z. m (sym (L .kept d h m) ∙ z)
 
-pub longer-trans : {n a b c : ℕ} {w w' w'' : List ℕ} → Longer n a b w w' → Longer n b c w' w'' → Longer n a c w w''
+longer-trans : {n a b c : ℕ} {w w' w'' : List ℕ} → Longer n a b w w' → Longer n b c w' w'' → Longer n a c w w''
 longer-trans L K = record {
   queue = K .queue;
   longer = omega (arith, L .longer, K .longer);
@@ -149,7 +149,7 @@ module _ {n tail d m : ℕ} {w : List ℕ} (Q : Queue n tail w) (hd : d < n) (hm
       go true q = entered-placed (eqb-true (getD w d 0) mark q)
       go false q = record { on = longer-refl Q; marked = eqb-false (getD w d 0) mark q; only = λ x h y. inl y }
 
--- linked through another dart, by more ranks, and to what a class leads
+-- links go on from a dart to another, more ranks keep them, and every class is 0 or 1
 pub linked-trans : {keep : ℕ → Bool} {N n : ℕ} {t : List ℕ} {d c e m f k : ℕ} → Linked keep N n t d c e m → Linked keep N n t e m f k → Linked keep N n t d c f k
 linked-trans r Linked.here = r
 linked-trans r (Linked.onward i h k s) = Linked.onward i h k (linked-trans r s)
@@ -179,7 +179,7 @@ module _ {keep : ℕ → Bool} {N n : ℕ} {t : List ℕ} where
           let (f, hf, m'', s) = G .traced e he m' in
           (f, hf, m'', linked-trans s r)
 
-  pub grown-wider : {keep' : ℕ → Bool} {tail tail' : ℕ} {w w' : List ℕ} → ((i : ℕ) → i ≤ N → keep i ≡ true → keep' i ≡ true) → Grown keep N n t tail tail' w w' → Grown keep' N n t tail tail' w w'
+  grown-wider : {keep' : ℕ → Bool} {tail tail' : ℕ} {w w' : List ℕ} → ((i : ℕ) → i ≤ N → keep i ≡ true → keep' i ≡ true) → Grown keep N n t tail tail' w w' → Grown keep' N n t tail tail' w w'
   grown-wider f G = record { on = G .on; traced = λ d h m. let (e, he, m', r) = G .traced d h m in (e, he, m', linked-wider f r) }
 
   -- following the link of one rank, as the code does
@@ -202,7 +202,7 @@ module _ {n tail tail' d : ℕ} {w w' : List ℕ} (L : Longer n tail tail' w w')
   pub longer-other : 1 - getD w d 0 ≡ 1 - getD w' d 0
   longer-other = rw (L .kept d h (omega arith))
 
--- the ranks kept by each part of the ranks, and by both
+-- which ranks a part keeps, and which all but one
 pub between-yes : (from to i : ℕ) → from ≤ i → i < to → between from to i ≡ true
 unfolding between
 between-yes from to i h k = rw (le-leb from i h, lt-ltb i to k)
@@ -219,7 +219,7 @@ pub but-yes : (skip i : ℕ) → i ≢ skip → allBut skip i ≡ true
 unfolding allBut
 but-yes skip i h = rw (ne-eqb i skip h)
 
-pub but-other : (skip i : ℕ) → allBut skip i ≡ true → i ≢ skip
+but-other : (skip i : ℕ) → allBut skip i ≡ true → i ≢ skip
 unfolding allBut
 but-other skip i k e = not-both (not (eqb i skip)) k (rw (eq-eqb i skip e))
 
@@ -250,7 +250,7 @@ module _ {N n : ℕ} {t : List ℕ} (v : Valid N n t) where
 
 module _ {keep : ℕ → Bool} {N n : ℕ} {t : List ℕ} (v : Valid N n t) where
   -- what is settled stays so
-  pub settled-longer : {from to tail tail' : ℕ} {w w' : List ℕ} → Queue n tail w → Longer n tail tail' w w' → to ≤ tail → Settled keep N n t from to w → Settled keep N n t from to w'
+  settled-longer : {from to tail tail' : ℕ} {w w' : List ℕ} → Queue n tail w → Longer n tail tail' w w' → to ≤ tail → Settled keep N n t from to w → Settled keep N n t from to w'
   settled-longer {w = w} Q L h S p hf ht i hi k = rw (L .same p (omega arith)) (longer-marked L (v .inside i (getD w (n + p) 0) hi (Q .darts p (omega arith))) (S p hf ht i hi k))
 
   -- the head of the queue has been spread from

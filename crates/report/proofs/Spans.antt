@@ -2,16 +2,16 @@
 use Prim.Native.Nat.{ℕ, zero, suc, _+_, _*_, _-_, _≤_, _<_}
 use mathlib.Core.Path.{_≡_, refl, ap, sym, _∙_}
 use mathlib.Core.Logic.{_⊎_, inl, inr}
-use mathlib.Core.Bool.{Bool, true}
+use mathlib.Core.Bool.{true}
 use mathlib.Core.List.{List, [], _∷_}
 use native.Mathlib.Omega.{arith}
 use native.Mathlib.Decide.{ℕ-discrete}
 use lib.ListN.{length, getD}
 use Rattle.rules.specs.Map.{mark, link, allRanks, allBut, blank, Valid}
-use Rattle.rules.specs.Report.{Cell, cells}
+use Rattle.rules.specs.Report.{Cell}
 use Rattle.rules.proofs.Orbits.{valid-closed, reached-trans, reached-sym}
 use Rattle.rules.proofs.Cells.{Picks, cells-unique}
-use Rattle.report.specs.Flood.{Marked, Queue, Linked, Settled, Longer, Flooded, Spun, Spanned, AllMarked}
+use Rattle.report.specs.Flood.{Marked, Queue, Linked, Settled, Longer, Flooded, Spun, Spanned}
 use Rattle.report.proofs.Floods.{but-yes, linked-trans, linked-wider, linked-reached, longer-refl, longer-marked, reached-marked, flooded-longer, flooded-started, flooded-traced, flooded-settled, class-blanked, queue-blanked, none-blanked}
 
 ranked : (i : ℕ) → allRanks i ≡ true

@@ -1,4 +1,4 @@
-// The cell report: one flood over lent work room serves the cells of each rank and the two classes.
+// The cell report: one flood over lent work room serves refusal 9, the cells of each rank and the two classes.
 // The first n entries hold each dart's class, 0 or 1, or the mark; the next n the darts marked so far, in the order in which they were.
 use rules::ReportAnswer;
 use rules::Session;
@@ -159,7 +159,7 @@ pub fn cell_counts(tables: &[u16], work: &mut [u16], dim: usize, darts: usize, t
     counts
 }
 
-// The number of free pairs of one rank. The count and the loop are of a form that goes several darts at a time: an entry is read where the one rule has it.
+// The number of free pairs of one rank. A count of 16 bits and no way out of the loop let the compiler take several darts at a time.
 pub fn free_at(tables: &[u16], dim: usize, darts: usize, rank: usize) -> u16
     requires { ⌜ Limits dim darts (now tables) × (rank ≤ dim) ⌝ }
     ensures { λ r. ⌜ r ≡ countBelow darts (λ d. isFree dim darts (now (tables .entry)) (rank * darts + d)) ⌝ }

@@ -1,5 +1,5 @@
 -- `report::cell_counts` meets its contract: after i turns the counts of the ranks below i are there, and the others are 0; that of rank N comes last. Assumes nothing.
-use Prim.Native.Nat.{_+_, _*_, _-_, _≤_}
+use Prim.Native.Nat.{_*_, _-_, _≤_}
 use mathlib.Core.Path.{_≡_, refl, _∙_}
 use native.Mathlib.Omega.{arith}
 use lib.ListN.{length, drop}

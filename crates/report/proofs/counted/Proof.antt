@@ -1,6 +1,5 @@
 -- `report::counted` meets its contract: each part of the answer is the definition's. Assumes nothing.
 use Prim.Native.Nat.{_+_, _*_}
-use mathlib.Core.Path.{_∙_}
 use native.Mathlib.Omega.{arith}
 use borrow.Author.Needs.{needs}
 use Rattle.report.proofs.Classes.{classes-tell}

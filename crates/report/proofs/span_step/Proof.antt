@@ -1,4 +1,5 @@
 -- `report::span_step` meets its contract: what is marked stays one part of each N-cell that it has, and the darts of the queue up to the head have been crossed by aN. Assumes nothing.
+use Prim.Native.Nat.{_<_}
 use mathlib.Core.Path.{refl}
 use native.Mathlib.Omega.{arith}
 use borrow.Author.Needs.{needs}
@@ -30,8 +31,9 @@ mul-if1 c = search needs
 slice-read-if1 : tie.Need-slice-read-if1
 slice-read-if1 c =
     let s = c .before .before .before .before .before in
-    let p = s .pre in
-    omega (arith, c .before .link-at .ensures, p .1 .inside (s .args .dim) _ (omega arith) (p .3 .queue .darts _ (p .2)))
+    let k = c .before .link-at in
+    let h : k .result < s .args .darts = rw (k .ensures) (s .pre .1 .inside _ _ (omega arith) (s .pre .3 .queue .darts _ (s .pre .2))) in
+    omega arith
 
 returns : tie.Need-returns
 returns c =

@@ -1,5 +1,4 @@
 -- `report::spread` meets its contract: the ranks below the one left out and those above it are all the others. Assumes nothing.
-use mathlib.Core.Path.{_∙_}
 use native.Mathlib.Omega.{arith}
 use borrow.Author.Needs.{needs}
 use Rattle.report.proofs.Floods.{longer-class, longer-other, spread-both}
