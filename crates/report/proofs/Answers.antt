@@ -20,7 +20,7 @@ use Rattle.rules.proofs.Lists.{not-both, first-before, getD-any}
 use Rattle.rules.proofs.Orbits.{Closed, valid-closed, reaches-reached, reached-reaches}
 use Rattle.rules.proofs.Check.{Case, Passes, refused-case, fine-passes}
 use Rattle.walk.specs.Numbers.{numberless, misfitOf, misbuiltOf}
-use Rattle.walk.proofs.Verdicts.{first-same, inspect-sizes, inspect-limits, inspect-tables, inspect-valid, tabled-on}
+use Rattle.walk.proofs.Verdicts.{first-same, check-sizes, check-limits, check-tables, check-valid, tabled-on}
 use Rattle.report.specs.Answer.{refusalOf, countedOf}
 use Rattle.report.specs.Flood.{Spanned, AllMarked}
 use Rattle.report.proofs.Floods.{linked-reached}
@@ -58,19 +58,19 @@ blank-past k w u v e p = e ∙ rw p
 -- what the code did, step by step: k is what it found of the sizes, a of the tables
 module _ (N n : ℕ) (t w : List ℕ) (k : ℕ) (ek : k ≡ misfitOf N n 0 (length t) (length w)) where
   pub report-sizes : (r : ReportAnswer) → r ≡ refusalOf k 0 → k ≢ 0 → (r ≡ reportAnswer N n t w) × (w ≡ reportWork N n t w)
-  report-sizes r e h = rw e (refused-as N n t w w k 0 (inspect-sizes N n 0 t w k ek h) h)
+  report-sizes r e h = rw e (refused-as N n t w w k 0 (check-sizes N n 0 t w k ek h) h)
 
   module _ (z : k ≡ 0) where
     pub report-limits : Limits N n t × (2 * n ≤ length w) × (0 < n)
-    report-limits = inspect-limits N n 0 t w k ek z
+    report-limits = check-limits N n 0 t w k ek z
 
     module _ (a : CheckAnswer) (ea : a ≡ misbuiltOf N n t) where
       pub report-tables : (r : ReportAnswer) → r ≡ refusalOf (a .number) (a .place) → a .number ≢ 0 → (r ≡ reportAnswer N n t w) × (w ≡ reportWork N n t w)
-      report-tables r e h = rw e (refused-as N n t w w (a .number) (a .place) (inspect-tables N n 0 t w k ek z a ea h) h)
+      report-tables r e h = rw e (refused-as N n t w w (a .number) (a .place) (check-tables N n 0 t w k ek z a ea h) h)
 
       module _ (y : a .number ≡ 0) where
         pub report-valid : Valid N n t
-        report-valid = inspect-valid N n 0 t w k ek z a ea y
+        report-valid = check-valid N n 0 t w k ek z a ea y
 
         -- u is the work room where all that is reached is marked, d the first dart that is not
         module _ (u : List ℕ) (top : ℕ) (S : Spanned N n t top u) (room : n ≤ length u) (d : ℕ) (ed : d ≡ first (numberless u) n) where
