@@ -1,16 +1,15 @@
 -- The ends: the stand that they stand for, before and after a step, the queues below a rank, and the head of the queues. Rests on the rules' Positions.
 use Prim.Native.Nat.{ℕ, suc, _+_, _≤_, _<_}
 use mathlib.Core.Path.{_≡_, refl}
-use mathlib.Core.Logic.{_≢_}
 use mathlib.Core.List.{List, [], _∷_}
 use native.Mathlib.Omega.{arith}
 use native.Mathlib.Decide.{decLt}
 use lib.ListN.{length, getD, set, drop}
-use lib.Seq.{getD-set-other}
 use Rattle.rules.specs.Walk.{Walk, Head, head}
+use Rattle.rules.proofs.Ends.{position-end}
 use Rattle.rules.proofs.Positions.{gone, bound, Shape, Turn, bound-le-count, turn, over}
 use Rattle.steps.specs.declared.Stand.{Stand}
-use Rattle.steps.specs.Turns.{walkAt, standOf, Emptied, Lowest}
+use Rattle.steps.specs.Turns.{walkAt, standOf, Lowest}
 
 -- b has left Lj
 abbrev pub standPassed : Stand → ℕ → Stand
@@ -20,17 +19,10 @@ standPassed s j = record { count = s .count; positions = set (s .positions) j (g
 abbrev pub standCounted : Stand → Stand
 standCounted s = record { count = s .count + 1; positions = s .positions }
 
--- the end at rank i is the bound of Li, the next one is its position
+-- the end at rank i is the bound of Li
 end-bound : (l : List ℕ) (i : ℕ) → 1 ≤ length l → getD (getD l 0 0 ∷ drop 1 l) i 0 ≡ getD l i 0
 end-bound [] i h = absurd (omega arith)
 end-bound (x ∷ xs) i h = refl
-
-end-gone : (l : List ℕ) (i : ℕ) → getD (drop 1 l) i 0 ≡ getD l (i + 1) 0
-end-gone l i = let e : i + 1 ≡ suc i = omega arith in rw e (go l)
-  where
-    go : (l : List ℕ) → getD (drop 1 l) i 0 ≡ getD l (suc i) 0
-    go [] = refl
-    go (x ∷ xs) = refl
 
 -- seven positions make eight ends
 pub ends-eight : (l : List ℕ) → length (standOf l .positions) ≡ 7 → length l ≡ 8
@@ -77,22 +69,6 @@ pub stand-made : (s : Stand) → length (s .positions) ≡ 7 → standOf (endsOf
 unfolding standOf
 stand-made s h = rw (seven-of (s .positions) h)
 
--- no queue is below L0
-pub emptied-none : (l : List ℕ) → Emptied l 0
-emptied-none l = record { lower = λ i h. absurd (omega arith) }
-
--- Lj is empty as well
-pub emptied-next : (l : List ℕ) (j : ℕ) → Emptied l j → getD l j 0 ≤ getD l (j + 1) 0 → Emptied l (j + 1)
-emptied-next l j x q = record { lower = λ i h. go i h (decLt i j) }
-  where
-    go : (i : ℕ) → i < j + 1 → Dec (i < j) → getD l i 0 ≤ getD l (i + 1) 0
-    go i h (yes k) = x .lower i k
-    go i h (no k) = let e : i ≡ j = omega arith in rw e q
-
--- a step at Lj leaves those below as they are
-pub emptied-passed : (l : List ℕ) (j v : ℕ) → Emptied l j → Emptied (set l (j + 1) v) j
-emptied-passed l j v x = record { lower = λ i h. let a : i ≢ j + 1 = omega arith in let b : i + 1 ≢ j + 1 = omega arith in rw (getD-set-other _ (j + 1) i, getD-set-other _ (j + 1) (i + 1)) (x .lower i h) }
-
 -- the head of the queues by their bounds and positions
 module _ (w : Walk) (s : Shape w) where
   head-here : (j : ℕ) → j ≤ w .dim → ((i : ℕ) → i < j → bound w i ≤ gone w i) → gone w j < bound w j → head w ≡ Head.at j (gone w j)
@@ -122,11 +98,11 @@ module _ (N n : ℕ) (l t : List ℕ) (s : Shape (walkAt N n (standOf l) t)) (j 
 
   lower : (i : ℕ) → i < j → bound (walkAt N n (standOf l) t) i ≤ gone (walkAt N n (standOf l) t) i
   unfolding walkAt standOf bound gone
-  lower i h = rw (end-bound l i some, end-gone l i) (x .emptied .lower i h)
+  lower i h = rw (end-bound l i some, position-end l i) (x .emptied .lower i h)
 
   pub lowest-here : j ≤ N → head (walkAt N n (standOf l) t) ≡ Head.at j (getD l (j + 1) 0)
   unfolding walkAt standOf bound gone
-  lowest-here h = rw (← end-gone l j) (head-here (walkAt N n (standOf l) t) s j h lower (rw (end-bound l j some, end-gone l j) (x .filled h)))
+  lowest-here h = rw (← position-end l j) (head-here (walkAt N n (standOf l) t) s j h lower (rw (end-bound l j some, position-end l j) (x .filled h)))
 
   pub lowest-over : N < j → head (walkAt N n (standOf l) t) ≡ Head.none
   unfolding walkAt

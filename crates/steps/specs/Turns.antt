@@ -11,6 +11,7 @@ use Rattle.rules.specs.Walk.{Walk, Head, head}
 use Rattle.rules.specs.Stream.{bitsOf}
 use Rattle.rules.specs.Reading.{Run, Step, stepTaken, step, runAll}
 use Rattle.rules.specs.Session.{queuesOf, begins}
+use Rattle.rules.proofs.Ends.{Emptied}
 use Rattle.rules.proofs.Walks.{Inv}
 use Rattle.rules.proofs.Readings.{Asks}
 use Rattle.symbols.specs.declared.Cursor.{Cursor}
@@ -70,10 +71,6 @@ standOf l = record { count = getD l 0 0; positions = drop 1 l }
 -- what a turn leaves, with the stand of the ends that it leaves
 abbrev pub turnedAt : Outcome → List ℕ → Turned
 turnedAt r l = record { stand = standOf l; cursor = r .cursor; signal = r .signal }
-
--- the queues below Lj are empty
-pub record Emptied (l : List ℕ) (j : ℕ) : Type 0 where
-  pub lower : (i : ℕ) → i < j → getD l i 0 ≤ getD l (i + 1) 0
 
 -- Lj is the lowest queue that isn't empty, or all are empty
 pub record Lowest (l : List ℕ) (N j : ℕ) : Type 0 where

@@ -10,8 +10,9 @@ ghost use lib.ListN.{length, set};
 ghost use Rattle.rules.specs.Map.{Limits, link};
 ghost use Rattle.rules.specs.Walk;
 ghost use Rattle.symbols.specs.Cursors.{CursorFits, PastSymbol};
+ghost use Rattle.rules.proofs.Ends.{Emptied};
 ghost use Rattle.steps.specs.Partners.{looking, toldPartner};
-ghost use Rattle.steps.specs.Turns.{walkAt, tablesJoined, mayName, standOf, turnedAt, Emptied, Lowest, Tied, Ready, Served, Taking, Turns, Runs};
+ghost use Rattle.steps.specs.Turns.{walkAt, tablesJoined, mayName, standOf, turnedAt, Lowest, Tied, Ready, Served, Taking, Turns, Runs};
 
 // Where a reading's walk stands: the darts numbered, and how many have left each queue.
 pub struct Stand {
@@ -129,21 +130,6 @@ pub fn comes_to(rank: usize, cursor: Cursor, signal: Signal) -> Outcome
     }
 }
 
-// The lowest queue that isn't empty, or a rank past N, searched from a rank below which all are empty: most steps leave them so.
-pub fn lowest(ends: &[u16], dim: usize, rank: usize) -> usize
-    requires { ⌜ (length (now ends) ≡ 8) × (dim ≤ 6) × Emptied (now ends) rank ⌝ }
-    ensures { λ r. ⌜ Lowest (now (ends .entry)) dim r ⌝ }
-{
-    let mut j = rank;
-    while j <= dim {
-        if ends[j + 1] < ends[j] {
-            return j;
-        }
-        j += 1;
-    }
-    j
-}
-
 // b has left Lj.
 pub fn passed(ends: &mut [u16], j: usize, b: WalkNo)
     requires { ⌜ (length (now ends) ≡ 8) × (j ≤ 6) × (b .0 < 65535) ⌝ }
@@ -210,34 +196,29 @@ pub fn by_symbol(
     }
 }
 
-// One step with the bits at hand.
+// One step with the bits at hand, at the head of Lj.
 pub fn turn(
     tables: &mut [u16],
     ends: &mut [u16],
     dim: usize,
     darts: usize,
-    rank: usize,
+    j: usize,
     c: Cursor,
     page: &[u8],
 ) -> Outcome
-    requires { ⌜ Ready dim darts (standOf (now ends)) c (now tables) (now page) × Emptied (now ends) rank ⌝ }
+    requires { ⌜ Ready dim darts (standOf (now ends)) c (now tables) (now page) × (j ≤ dim) × Lowest (now ends) dim j ⌝ }
     ensures { λ r. ⌜ Turns dim darts (standOf (now (ends .entry))) c (now (tables .entry)) (now (page .entry)) (turnedAt r (now (ends .exit))) (now (tables .exit)) × Emptied (now (ends .exit)) (r .rank) ⌝ }
 {
-    let j = lowest(ends, dim, rank);
-    if dim < j {
-        return comes_to(j, c, Signal::Ended);
-    }
     let b = WalkNo(ends[j + 1]);
-    let onward = comes_to(j, c, Signal::More);
     match partner(tables, dim, darts, j, b) {
         Case::Known => {
             passed(ends, j, b);
-            onward
+            comes_to(j, c, Signal::More)
         }
         Case::Deduced(e) => {
             if follow(tables, dim, darts, j, e).0 == Session::NO_LINK {
                 tied(tables, ends, dim, darts, j, b, e);
-                onward
+                comes_to(j, c, Signal::More)
             } else {
                 comes_to(j, c, Signal::Refused(14))
             }
@@ -263,25 +244,30 @@ pub fn walk_on(
 {
     let mut rank = 0;
     let mut cursor = c;
-    loop {
-        let t = turn(tables, ends, dim, darts, rank, cursor, page);
-        let signal = t.signal;
-        match signal {
-            Signal::More => {
-                rank = t.rank;
-                cursor = t.cursor;
-            }
-            Signal::Ended => {
-                return t;
-            }
-            Signal::Waits => {
-                return t;
-            }
-            Signal::Refused(_) => {
-                return t;
+    while rank <= dim {
+        if ends[rank] <= ends[rank + 1] {
+            rank += 1;
+        } else {
+            let t = turn(tables, ends, dim, darts, rank, cursor, page);
+            let signal = t.signal;
+            match signal {
+                Signal::More => {
+                    rank = t.rank;
+                    cursor = t.cursor;
+                }
+                Signal::Ended => {
+                    return t;
+                }
+                Signal::Waits => {
+                    return t;
+                }
+                Signal::Refused(_) => {
+                    return t;
+                }
             }
         }
     }
+    comes_to(rank, cursor, Signal::Ended)
 }
 
 // The stand that ends stand for.

@@ -8,7 +8,7 @@ use mathlib.Core.List.{List, [], _∷_, _++_}
 use native.Mathlib.Omega.{arith}
 use native.Mathlib.Decide.{ℕ-discrete, decLt}
 use lib.ListN.{length, getD, set, drop, length-append, length-set}
-use lib.Seq.{getD-at, getD-set-same, getD-set-other}
+use lib.Seq.{getD-at, getD-set-same}
 use lib.Dec.{eqb}
 use borrow.Author.Tests.{eqb-true, eq-eqb, ne-eqb, lt-ltb, le-ltb}
 use Rattle.walk.specs.declared.Output.{Output}
@@ -18,6 +18,7 @@ use Rattle.rules.specs.Map.{mark, link, blank, Valid}
 use Rattle.rules.specs.Walk.{Walk, start, Head, head, steps, Symbol, enough, Written, writeAt, writeStep, Walked, prepend, writeOn, write, walked, namesOf, symbolsOf}
 use Rattle.rules.specs.Stream.{code, codes}
 use Rattle.rules.proofs.Lists.{number-le, number-old}
+use Rattle.rules.proofs.Ends.{position-end, count-kept, positions-moved, positions-kept, Emptied, emptied-none, emptied-passed}
 use Rattle.rules.proofs.Positions.{gone, bound, Shape, Turn, bound-le-count, over}
 use Rattle.rules.proofs.Links.{next-below}
 use Rattle.rules.proofs.Walks.{sum-set, next-of}
@@ -27,7 +28,7 @@ use Rattle.rules.proofs.Names.{name, room}
 use Rattle.rules.proofs.Numbering.{After, Kept, after-kept}
 use Rattle.rules.proofs.Streams.{symbols-few}
 use Rattle.walk.specs.Numbers.{numberIn, dartIn, writesIn, countAfter, given, partnerIn, unnumbered, endsAfter, roomAfter, Headed, lowestFrom, roomOf}
-use Rattle.walk.proofs.Laws.{Agrees, symbolsFor, namesFor, workFor, across, written-new, written-old, Steps, steps-written, lowest-stop, lowest-on, lowest-over, count-kept}
+use Rattle.walk.proofs.Laws.{Agrees, symbolsFor, namesFor, workFor, across, written-new, written-old, Steps, steps-written, lowest-stop, lowest-on, lowest-over}
 use Rattle.walk.proofs.Rooms.{shown-none, room-number, room-agrees, room-new, room-none, room-tail, room-root}
 
 -- the count and the positions of a numbering
@@ -412,36 +413,11 @@ module _ (N n : ℕ) (m : List ℕ) (root : ℕ) (h6 : N ≤ 6) (hn : n ≤ 4096
 abbrev pub standing : List ℕ → Numbering
 standing ends = record { count = getD ends 0 0; positions = drop 1 ends }
 
--- the queues below j are empty
-abbrev pub Emptied : List ℕ → ℕ → Type 0
-Emptied ends j = (i : ℕ) → i < j → getD ends i 0 ≤ getD ends (i + 1) 0
-
-pub position-end : (ends : List ℕ) (j : ℕ) → getD (drop 1 ends) j 0 ≡ getD ends (j + 1) 0
-position-end [] j = refl
-position-end (c ∷ ps) j = let e : j + 1 ≡ suc j = omega arith in rw e
-
-pub positions-moved : (ends : List ℕ) (j v : ℕ) → drop 1 (set ends (j + 1) v) ≡ set (drop 1 ends) j v
-positions-moved [] j v = refl
-positions-moved (c ∷ ps) j v = let e : j + 1 ≡ suc j = omega arith in rw e
-
-pub positions-kept : (ends : List ℕ) (v : ℕ) → drop 1 (set ends 0 v) ≡ drop 1 ends
-positions-kept [] v = refl
-positions-kept (c ∷ ps) v = refl
-
-pub emptied-next : (ends : List ℕ) (j : ℕ) → Emptied ends j → getD ends j 0 ≤ getD ends (j + 1) 0 → Emptied ends (j + 1)
-emptied-next ends j E h i l = go (ℕ-discrete i j)
-  where
-    go : Dec (i ≡ j) → getD ends i 0 ≤ getD ends (i + 1) 0
-    go (yes e) = rw e h
-    go (no e) = E i (omega arith)
-
 -- what a step leaves empty
 pub emptied-after : (new : Bool) (ends : List ℕ) (j : ℕ) → Emptied ends j → Emptied (endsAfter new j ends) (cond new 0 j)
 unfolding endsAfter
-emptied-after true ends j E i l = absurd (omega arith)
-emptied-after false ends j E i l =
-    let v = getD ends (j + 1) 0 + 1 in
-    rw (getD-set-other ends (j + 1) i v 0 (omega arith), getD-set-other ends (j + 1) (i + 1) v 0 (omega arith)) (E i l)
+emptied-after true ends j E = emptied-none _
+emptied-after false ends j E = emptied-passed ends j (getD ends (j + 1) 0 + 1) E
 
 pub next-within : (new : Bool) (j k : ℕ) → j ≤ k → cond new 0 j ≤ k
 next-within true j k h = omega arith
@@ -451,8 +427,8 @@ module _ (N : ℕ) (ends : List ℕ) where
   lowest-emptied : (j : ℕ) → j ≤ N + 1 → Emptied ends j → lowestFrom (N + 1) 0 (getD ends 0 0) (drop 1 ends) ≡ lowestFrom (N + 1 - j) j (getD ends j 0) (drop 1 ends)
   lowest-emptied zero h E = let e : N + 1 - 0 ≡ N + 1 = omega arith in rw e
   lowest-emptied (suc j) h E =
-      let r = lowest-emptied j (omega arith) (λ i l. E i (omega arith)) in
-      let o = lowest-on (N + 1) j (getD ends j 0) (drop 1 ends) (omega arith) (omega (arith, position-end ends j, E j (omega arith))) in
+      let r = lowest-emptied j (omega arith) (record { lower = λ i l. E .lower i (omega arith) }) in
+      let o = lowest-on (N + 1) j (getD ends j 0) (drop 1 ends) (omega arith) (omega (arith, position-end ends j, E .lower j (omega arith))) in
       let e : j + 1 ≡ suc j = omega arith in
       r ∙ rw (position-end ends j, e) at o
 

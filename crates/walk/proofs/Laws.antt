@@ -8,7 +8,6 @@ use mathlib.Core.List.{List, [], _∷_, _++_}
 use native.Mathlib.Omega.{arith}
 use native.Mathlib.Decide.{decLt}
 use lib.ListN.{length, getD, set}
-use lib.Seq.{getD-set-other}
 use lib.Dec.{eqb, ltb, leb}
 use borrow.Author.Tests.{eqb-false, eq-eqb, ne-eqb, lt-ltb, le-leb, lt-leb, le-ltb}
 use Rattle.rules.specs.declared.Dart.{Dart}
@@ -24,6 +23,7 @@ use Rattle.rules.proofs.Links.{next-below}
 use Rattle.rules.proofs.Walks.{Inv, next-of, deduced-below}
 use Rattle.rules.proofs.Moves.{see-deduced}
 use Rattle.rules.proofs.Names.{name, Names}
+use Rattle.rules.proofs.Ends.{count-kept}
 use Rattle.rules.proofs.Known.{leanKnown, leanDeduce, leanPartner, lower-link, partner-lean}
 use Rattle.walk.specs.Numbers.{numberIn, dartIn, knownIn, deducingRank, writesBy, writesIn, given, countAfter, partnerIn, unnumbered, endsAfter, roomAfter, lowestFrom, numberless}
 
@@ -297,10 +297,6 @@ module _ (N n : ℕ) (t work : List ℕ) (c j p : ℕ) (d : Dart) (ed : d .0 ≡
         pub writes-index : e .0 < c → Index e ≡ writesIn N n t work c j p
         unfolding writesIn writesBy
         writes-index h = rw (← ed, unknown-both, ← el, hl, ← ex, ne-eqb (x .0) (d .0) hx, ← ee, lt-leb c (e .0) h)
-
--- the count stands before the positions
-pub count-kept : (ends : List ℕ) (j v : ℕ) → getD (set ends (j + 1) v) 0 0 ≡ getD ends 0 0
-count-kept ends j v = getD-set-other ends (j + 1) 0 v 0 (omega arith)
 
 -- a step of the numbering, one way through the code at a time: x is the partner, y its number
 module _ (N n : ℕ) (t work ends : List ℕ) (j d x y : ℕ) (ed : d ≡ dartIn n work (getD ends (j + 1) 0)) (ex : x ≡ link N n t j d) (ey : y ≡ numberIn n work x) where

@@ -25,7 +25,8 @@ use Rattle.rules.proofs.Numbering.{name-number, name-below, names-all}
 use Rattle.rules.proofs.Streams.{symbols-few}
 use Rattle.walk.specs.Numbers.{numberIn, dartIn, writesBy, writesIn, countAfter, lowestFrom}
 use Rattle.walk.proofs.Laws.{Agrees, symbolsFor}
-use Rattle.walk.proofs.Going.{Numbering, Going, Emptied, position-end, positions-moved, positions-kept, going-own, going-start, going-start-left, going-onward, going-same, going-over, going-heads, going-less}
+use Rattle.rules.proofs.Ends.{position-end, positions-moved, positions-kept, Emptied, emptied-none}
+use Rattle.walk.proofs.Going.{Numbering, Going, going-own, going-start, going-start-left, going-onward, going-same, going-over, going-heads, going-less}
 use Rattle.pen.specs.Pens.{PenFits, Put, IndexFits}
 use Rattle.pen.proofs.Laws.{put-none, put-both}
 use Rattle.writer.specs.declared.Replay.{Replay}
@@ -282,15 +283,15 @@ module _ (ends : List ℕ) (j v c : ℕ) (some : 0 < length ends) where
 
   -- the queues below the rank to go on at are empty
   pub moved-emptied : (b : Bool) → eqb c (getD ends 0 0) ≡ b → Emptied ends j → Emptied (moved j v c ends) (cond b j 0)
-  moved-emptied false q E i l = absurd (omega arith)
-  moved-emptied true q E i l = go (ℕ-discrete i 0)
+  moved-emptied false q E = emptied-none _
+  moved-emptied true q E = record { lower = λ i l. go i l (ℕ-discrete i 0) }
     where
       later : (i : ℕ) → i ≤ j → i ≢ 0 → getD (moved j v c ends) i 0 ≡ getD ends i 0
       later i h z = getD-set-other (set ends (j + 1) v) 0 i c 0 z ∙ getD-set-other ends (j + 1) i v 0 (omega arith)
 
-      go : Dec (i ≡ 0) → getD (moved j v c ends) i 0 ≤ getD (moved j v c ends) (i + 1) 0
-      go (yes e) = rw e (rw (moved-count, later 1 (omega arith) (omega arith), eqb-true c (getD ends 0 0) q) (E 0 (omega arith)))
-      go (no e) = rw (later i (omega arith) e, later (i + 1) (omega arith) (omega arith)) (E i l)
+      go : (i : ℕ) → i < j → Dec (i ≡ 0) → getD (moved j v c ends) i 0 ≤ getD (moved j v c ends) (i + 1) 0
+      go i l (yes e) = rw e (rw (moved-count, later 1 (omega arith) (omega arith), eqb-true c (getD ends 0 0) q) (E .lower 0 (omega arith)))
+      go i l (no e) = rw (later i (omega arith) e, later (i + 1) (omega arith) (omega arith)) (E .lower i l)
 
 pub moved-within : (b : Bool) (j k : ℕ) → j ≤ k → cond b j 0 ≤ k
 moved-within true j k h = h

@@ -3,7 +3,7 @@ use Prim.Native.Nat.{_≤_, _<_}
 use native.Mathlib.Omega.{arith}
 use lib.ListN.{getD, length-set}
 use borrow.Author.Needs.{needs}
-use Rattle.steps.proofs.Ends.{emptied-none, emptied-passed}
+use Rattle.rules.proofs.Ends.{emptied-none, emptied-passed}
 use Rattle.steps.proofs.Turns.{taking-short, taking-border, taking-index, taking-12, taking-new, taking-13, name-below}
 use Rattle.steps.proofs.by_symbol.Statement.{statement}
 use Rattle.steps.proofs.by_symbol.Tie as tie

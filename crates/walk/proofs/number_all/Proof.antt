@@ -7,8 +7,9 @@ use lib.ListN.{length, drop, length-set}
 use borrow.Author.Needs.{needs}
 use Rattle.rules.specs.Lists.{sum}
 use Rattle.rules.specs.Walk.{enough}
+use Rattle.rules.proofs.Ends.{Emptied, emptied-none, emptied-next}
 use Rattle.walk.specs.Numbers.{unnumbered}
-use Rattle.walk.proofs.Going.{Going, standing, Emptied, emptied-next, emptied-after, lowest-head, lowest-past, begins-going, ends-going, next-within, going-headed, going-numbered, going-nearer}
+use Rattle.walk.proofs.Going.{Going, standing, emptied-after, lowest-head, lowest-past, begins-going, ends-going, next-within, going-headed, going-numbered, going-nearer}
 use Rattle.walk.proofs.number_all.Statement.{statement}
 use Rattle.walk.proofs.number_all.Tie as tie
 
@@ -38,7 +39,7 @@ loop-holds : tie.Need-loop-holds Inv-loop μ-loop
 loop-holds c =
     let s = c .before .before .before .before .before .before .before .before .before .before in
     let a = s .args in
-    (refl, refl, omega arith, λ i l. absurd (omega arith), begins-going (a .dim) (a .darts) (a .tables .now) (a .root) (omega arith) (omega arith) (omega arith) (s .pre .3) (a .work .now) _ _ (c .before .before .before .before .before .before .blank .ensures) (c .before .before .give-number .ensures))
+    (refl, refl, omega arith, emptied-none _, begins-going (a .dim) (a .darts) (a .tables .now) (a .root) (omega arith) (omega arith) (omega arith) (s .pre .3) (a .work .now) _ _ (c .before .before .before .before .before .before .blank .ensures) (c .before .before .give-number .ensures))
 
 mul-if1 : tie.Need-mul-if1 Inv-loop μ-loop
 mul-if1 c = omega arith

@@ -9,7 +9,8 @@ use borrow.Author.Needs.{needs}
 use Rattle.rules.specs.Lists.{sum}
 use Rattle.rules.specs.Walk.{enough}
 use Rattle.walk.specs.Numbers.{writesIn, countAfter}
-use Rattle.walk.proofs.Going.{Emptied, emptied-next, lowest-head, lowest-past}
+use Rattle.rules.proofs.Ends.{Emptied, emptied-none, emptied-next}
+use Rattle.walk.proofs.Going.{lowest-head, lowest-past}
 use Rattle.writer.specs.Replays.{NumberedFrom}
 use Rattle.writer.proofs.Replays.{Replaying, replay-starts, replay-asks, replay-nearer, replay-moves, replay-ends, moved-emptied, moved-within}
 use Rattle.writer.proofs.put_symbols.Statement.{statement}
@@ -29,7 +30,7 @@ loop-holds : tie.Need-loop-holds Inv-loop μ-loop
 loop-holds c =
     let s = c .before .before .before in
     let a = s .args in
-    (refl, refl, omega arith, λ i l. absurd (omega arith), λ root q. replay-starts (a .dim) (a .darts) (a .tables .now) _ (omega arith) (omega arith) (q .connected .rooted) (s .pre .1) (a .work .now) q (a .start) _ _)
+    (refl, refl, omega arith, emptied-none _, λ root q. replay-starts (a .dim) (a .darts) (a .tables .now) _ (omega arith) (omega arith) (q .connected .rooted) (s .pre .1) (a .work .now) q (a .start) _ _)
 
 mul-if2 : tie.Need-mul-if2 Inv-loop μ-loop
 mul-if2 c = omega arith

@@ -4,7 +4,7 @@ use mathlib.Core.Path.{refl}
 use native.Mathlib.Omega.{arith}
 use lib.ListN.{getD}
 use borrow.Author.Needs.{needs}
-use Rattle.walk.proofs.Laws.{count-kept}
+use Rattle.rules.proofs.Ends.{count-kept}
 use Rattle.writer.proofs.Replays.{index-by, replayed-by, rank-new, rank-old}
 use Rattle.writer.proofs.replay_step.Statement.{statement}
 use Rattle.writer.proofs.replay_step.Tie as tie
