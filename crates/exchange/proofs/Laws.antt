@@ -1,7 +1,7 @@
 -- Laws of the stored record: a session and the fifteen numbers that stand for it are each other's; then what each test of the code tells.
 -- Rests on the rules' Lists and the tests of fitness.
 use Prim.Native.Nat.{ℕ, zero, suc, _+_, _≤_, _<_}
-use mathlib.Core.Path.{_≡_, refl, ap, sym, subst, _∙_}
+use mathlib.Core.Path.{_≡_, refl, ap, sym, _∙_}
 use mathlib.Core.Logic.{_≢_}
 use mathlib.Core.Bool.{Bool, true, false, not, cond}
 use mathlib.Core.List.{List, [], _∷_, _++_}
@@ -17,34 +17,10 @@ use Rattle.rules.specs.Reading.{plainAnswer}
 use Rattle.rules.specs.Session.{Left}
 use Rattle.records.specs.declared.Paged.{Paged}
 use Rattle.records.specs.Lefts.{leftBy}
-use Rattle.rules.proofs.Lists.{and-right, all-below}
+use Rattle.rules.proofs.Lists.{and-right, all-below, entries, entries-of, seven}
 use Rattle.exchange.specs.Stored.{readNumbers, reportNumbers, stateNumber, refusalNumber, refusalPlace, storedSession, stateBy, sessionBy, stateStands, narrowAt, standing, lent, stored, ifStanding, called}
 
--- k entries from i on
-entries : ℕ → ℕ → List ℕ → List ℕ
-entries zero i p = []
-entries (suc k) i p = getD p i 0 ∷ entries k (suc i) p
-
-entries-tail : (k i x : ℕ) (p : List ℕ) → entries k (suc i) (x ∷ p) ≡ entries k i p
-unfolding entries
-entries-tail zero i x p = refl
-entries-tail (suc k) i x p = ap (λ q. getD p i 0 ∷ q) (entries-tail k (suc i) x p)
-
--- a list is its entries in order
-entries-all : (p : List ℕ) → entries (length p) 0 p ≡ p
-unfolding entries
-entries-all [] = refl
-entries-all (x ∷ p) = ap (λ q. x ∷ q) (entries-tail (length p) 0 x p ∙ entries-all p)
-
-entries-of : (k : ℕ) (p : List ℕ) → length p ≡ k → entries k 0 p ≡ p
-entries-of k p e = subst (λ n. entries n 0 p ≡ p) e (entries-all p)
-
--- seven entries are the list
-pub seven : (p : List ℕ) → length p ≡ 7 → (getD p 0 0 ∷ getD p 1 0 ∷ getD p 2 0 ∷ getD p 3 0 ∷ getD p 4 0 ∷ getD p 5 0 ∷ getD p 6 0 ∷ []) ≡ p
-unfolding entries
-seven p e = entries-of 7 p e
-
--- so are fifteen
+-- fifteen entries are the list
 pub fifteen : (p : List ℕ) → length p ≡ 15 → (getD p 0 0 ∷ getD p 1 0 ∷ getD p 2 0 ∷ getD p 3 0 ∷ getD p 4 0 ∷ getD p 5 0 ∷ getD p 6 0 ∷ getD p 7 0 ∷ getD p 8 0 ∷ getD p 9 0 ∷ getD p 10 0 ∷ getD p 11 0 ∷ getD p 12 0 ∷ getD p 13 0 ∷ getD p 14 0 ∷ []) ≡ p
 unfolding entries
 fifteen p e = entries-of 15 p e

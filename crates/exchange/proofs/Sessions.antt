@@ -18,14 +18,14 @@ use Rattle.rules.specs.Stream.{value, unpack}
 use Rattle.rules.specs.Walk.{Walk}
 use Rattle.rules.specs.Reading.{Reading, readingOf, readHeader, answerOf, tablesOf, readWhole, readAnswer, readTables}
 use Rattle.rules.specs.Session.{idle, held, store, opened, Left, leaves, page, close, recordFor, tablesFor}
-use Rattle.rules.proofs.Lists.{and-left, and-right, both, below-all, getD-same}
+use Rattle.rules.proofs.Lists.{and-left, and-right, both, below-all, getD-same, seven}
 use Rattle.rules.proofs.Codes.{value-lt}
 use Rattle.rules.proofs.Positions.{gone, Shape, gone-le-count}
 use Rattle.rules.proofs.Readings.{begins-13}
 use Rattle.rules.proofs.Fitness.{Fits}
 use Rattle.rules.proofs.Sessions.{whole, reading-fits, page-reads, close-whole}
 use Rattle.exchange.specs.Stored.{readNumbers, stateNumber, refusalNumber, refusalPlace, storedSession, stateBy, positionsBy, sessionBy, stateStands, narrowAt, standing, Lent, lent, stored, ifStanding, called, pageLent, closeLent}
-use Rattle.exchange.proofs.Laws.{seven, fifteen, stored-by}
+use Rattle.exchange.proofs.Laws.{fifteen, stored-by}
 
 -- a session as the record holds it: seven positions, numbers of 16 bits
 pub record Narrow (s : Session) : Type 0 where

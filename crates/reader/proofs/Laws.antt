@@ -47,10 +47,6 @@ module _ (x y : ℕ) (hx : x < 256) (hy : y < 256) (rest : List Bool) where
   low : List Bool
   low = drop 4 (bitsOf 8 x)
 
-  high-length : length high ≡ 4
-  unfolding high
-  high-length = simp length-take (omega (arith, length-bits 8 x))
-
   low-length : length low ≡ 4
   unfolding low
   low-length = simp length-drop (omega (arith, length-bits 8 x))

@@ -1,6 +1,6 @@
 -- Laws of the plain functions on numbers and lists: ranges, places in a list, tests below a bound, the first number that passes, pigeonhole. Rests on no other law of the project.
 use Prim.Native.Nat.{ℕ, zero, suc, _+_, _-_, _≤_, _<_}
-use mathlib.Core.Path.{_≡_, refl, ap, sym, _∙_}
+use mathlib.Core.Path.{_≡_, refl, ap, sym, subst, _∙_}
 use mathlib.Core.Logic.{_≢_, _⊎_, inl, inr}
 use mathlib.Core.Bool.{Bool, true, false, _&&_, cond, _||_}
 use mathlib.Core.List.{List, [], _∷_, _++_, map}
@@ -287,6 +287,30 @@ pub getD-any : (t : List ℕ) (i x y : ℕ) → i < length t → getD t i x ≡ 
 getD-any [] i x y h = absurd (omega arith)
 getD-any (a ∷ t) zero x y h = refl
 getD-any (a ∷ t) (suc i) x y h = getD-any t i x y (omega arith)
+
+-- k entries from i on
+unfoldable pub entries : ℕ → ℕ → List ℕ → List ℕ
+entries zero i p = []
+entries (suc k) i p = getD p i 0 ∷ entries k (suc i) p
+
+entries-tail : (k i x : ℕ) (p : List ℕ) → entries k (suc i) (x ∷ p) ≡ entries k i p
+unfolding entries
+entries-tail zero i x p = refl
+entries-tail (suc k) i x p = ap (λ q. getD p i 0 ∷ q) (entries-tail k (suc i) x p)
+
+-- a list is its entries in order
+entries-all : (p : List ℕ) → entries (length p) 0 p ≡ p
+unfolding entries
+entries-all [] = refl
+entries-all (x ∷ p) = ap (λ q. x ∷ q) (entries-tail (length p) 0 x p ∙ entries-all p)
+
+pub entries-of : (k : ℕ) (p : List ℕ) → length p ≡ k → entries k 0 p ≡ p
+entries-of k p e = subst (λ n. entries n 0 p ≡ p) e (entries-all p)
+
+-- seven entries are the list
+pub seven : (p : List ℕ) → length p ≡ 7 → (getD p 0 0 ∷ getD p 1 0 ∷ getD p 2 0 ∷ getD p 3 0 ∷ getD p 4 0 ∷ getD p 5 0 ∷ getD p 6 0 ∷ []) ≡ p
+unfolding entries
+seven p e = entries-of 7 p e
 
 -- no number is at one place and another
 pub pigeonhole : (a b : ℕ) (f : ℕ → ℕ) → ((i : ℕ) → i < a → f i < b) → ((i j : ℕ) → i < a → j < a → f i ≡ f j → i ≡ j) → a ≤ b

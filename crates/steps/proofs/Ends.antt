@@ -6,6 +6,7 @@ use native.Mathlib.Omega.{arith}
 use native.Mathlib.Decide.{decLt}
 use lib.ListN.{length, getD, set, drop}
 use Rattle.rules.specs.Walk.{Walk, Head, head}
+use Rattle.rules.proofs.Lists.{seven}
 use Rattle.rules.proofs.Ends.{position-end}
 use Rattle.rules.proofs.Positions.{gone, bound, Shape, Turn, bound-le-count, turn, over}
 use Rattle.steps.specs.declared.Stand.{Stand}
@@ -44,30 +45,18 @@ unfolding standOf
 stand-counted [] h = absurd (omega arith)
 stand-counted (x ∷ xs) h = refl
 
--- a list of seven by its entries
-seven-of : (l : List ℕ) → length l ≡ 7 → getD l 0 0 ∷ getD l 1 0 ∷ getD l 2 0 ∷ getD l 3 0 ∷ getD l 4 0 ∷ getD l 5 0 ∷ getD l 6 0 ∷ [] ≡ l
-seven-of [] h = absurd (omega arith)
-seven-of (a ∷ []) h = absurd (omega arith)
-seven-of (a ∷ b ∷ []) h = absurd (omega arith)
-seven-of (a ∷ b ∷ c ∷ []) h = absurd (omega arith)
-seven-of (a ∷ b ∷ c ∷ d ∷ []) h = absurd (omega arith)
-seven-of (a ∷ b ∷ c ∷ d ∷ e ∷ []) h = absurd (omega arith)
-seven-of (a ∷ b ∷ c ∷ d ∷ e ∷ f ∷ []) h = absurd (omega arith)
-seven-of (a ∷ b ∷ c ∷ d ∷ e ∷ f ∷ g ∷ []) h = refl
-seven-of (a ∷ b ∷ c ∷ d ∷ e ∷ f ∷ g ∷ x ∷ xs) h = absurd (omega arith)
-
 -- the stand as it is read from the ends, and the ends as they are made from a stand
 pub stand-read : (l : List ℕ) → length l ≡ 8 → record { count = getD l 0 0; positions = getD l 1 0 ∷ getD l 2 0 ∷ getD l 3 0 ∷ getD l 4 0 ∷ getD l 5 0 ∷ getD l 6 0 ∷ getD l 7 0 ∷ [] } ≡ standOf l
 unfolding standOf
 stand-read [] h = absurd (omega arith)
-stand-read (x ∷ xs) h = rw (seven-of xs (omega arith))
+stand-read (x ∷ xs) h = rw (seven xs (omega arith))
 
 abbrev pub endsOf : Stand → List ℕ
 endsOf s = s .count ∷ getD (s .positions) 0 0 ∷ getD (s .positions) 1 0 ∷ getD (s .positions) 2 0 ∷ getD (s .positions) 3 0 ∷ getD (s .positions) 4 0 ∷ getD (s .positions) 5 0 ∷ getD (s .positions) 6 0 ∷ []
 
 pub stand-made : (s : Stand) → length (s .positions) ≡ 7 → standOf (endsOf s) ≡ s
 unfolding standOf
-stand-made s h = rw (seven-of (s .positions) h)
+stand-made s h = rw (seven (s .positions) h)
 
 -- the head of the queues by their bounds and positions
 module _ (w : Walk) (s : Shape w) where

@@ -3,7 +3,7 @@ use mathlib.Core.Path.{_≡_}
 use native.Mathlib.Omega.{arith}
 use lib.ListN.{length}
 use borrow.Author.Needs.{needs}
-use Rattle.exchange.proofs.Laws.{seven}
+use Rattle.rules.proofs.Lists.{seven}
 use Rattle.exchange.proofs.stored_positions.Statement.{statement}
 use Rattle.exchange.proofs.stored_positions.Tie as tie
 
