@@ -18,24 +18,12 @@ use Rattle.rules.specs.Check.{Verdict, refuseIf, unreached, verdict, workAfter,
 use Rattle.rules.specs.Report.{cellCounts, freePairs, orientable, reportAnswerOf, reportAnswer, reportWorkAfter, reportWork}
 use Rattle.rules.proofs.Lists.{not-both, first-before, getD-any}
 use Rattle.rules.proofs.Orbits.{Closed, valid-closed, reaches-reached, reached-reaches}
-use Rattle.rules.proofs.Check.{Case, Passes, refused-case, fine-passes}
+use Rattle.rules.proofs.Check.{Case, Passes, refused-case, refused-some, fine-passes}
 use Rattle.walk.specs.Numbers.{numberless, misfitOf, misbuiltOf}
 use Rattle.walk.proofs.Verdicts.{first-same, check-sizes, check-limits, check-tables, check-valid, tabled-on}
 use Rattle.report.specs.Answer.{refusalOf, countedOf}
 use Rattle.report.specs.Flood.{Spanned, AllMarked}
 use Rattle.report.proofs.Floods.{linked-reached}
-
--- a refusal's number is not 0
-case-some : {N n root room nr p : ℕ} {t : List ℕ} → Case N n root t room nr p → nr ≢ 0
-case-some (Case.dims h) = omega arith
-case-some (Case.darts h) = omega arith
-case-some (Case.tables h) = omega arith
-case-some (Case.work h) = omega arith
-case-some (Case.rootless h) = omega arith
-case-some (Case.entry i d F) = omega arith
-case-some (Case.inverse i d F) = omega arith
-case-some (Case.manifold k d F) = omega arith
-case-some (Case.unreachable d L) = omega arith
 
 -- a refusal that the check would give too
 refused-as : (N n : ℕ) (t w w' : List ℕ) (nr p : ℕ) → (record { number = nr; place = p } ≡ checkAnswer N n 0 t w) × (w' ≡ checkWork N n 0 t w) → nr ≢ 0 → (refusalOf nr p ≡ reportAnswer N n t w) × (w' ≡ reportWork N n t w)
@@ -112,7 +100,7 @@ reported N n t w a ea h = go (verdict N n 0 t (length w)) refl (sym (ap (λ (x :
   where
     go : (v : Verdict) → verdict N n 0 t (length w) ≡ v → reportAnswerOf N n t v .number ≡ 0 → Passes N n 0 t (length w)
     go Verdict.fine e z = fine-passes N n 0 t (length w) e
-    go (Verdict.refused nr p) e z = absurd (case-some (refused-case N n 0 t (length w) nr p e .0) z)
+    go (Verdict.refused nr p) e z = absurd (refused-some N n 0 t (length w) nr p e z)
 
 -- the report takes root 0, which is a dart wherever n is within the limits: it never gives 5
 rootless-case : {N n room nr p : ℕ} {t : List ℕ} → Case N n 0 t room nr p → nr ≡ 5 → n ≤ 0

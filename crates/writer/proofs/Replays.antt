@@ -293,10 +293,6 @@ module _ (ends : List ℕ) (j v c : ℕ) (some : 0 < length ends) where
       go i l (yes e) = rw e (rw (moved-count, later 1 (omega arith) (omega arith), eqb-true c (getD ends 0 0) q) (E .lower 0 (omega arith)))
       go i l (no e) = rw (later i (omega arith) e, later (i + 1) (omega arith) (omega arith)) (E .lower i l)
 
-pub moved-within : (b : Bool) (j k : ℕ) → j ≤ k → cond b j 0 ≤ k
-moved-within true j k h = h
-moved-within false j k h = omega arith
-
 -- the replay over ends
 module _ (N n : ℕ) (m : List ℕ) (root : ℕ) (h6 : N ≤ 6) (hn : n ≤ 4096) (hr : root < n) (A : Valid N n m) (work : List ℕ) (Q : NumberedFrom N n m root work) (from : ℕ) (pen : Pen) (out ends : List ℕ)
     {r : Pen} {o : List ℕ} (R : Replaying N n m root work from (getD ends 0 0) (drop 1 ends) pen r out o) (j : ℕ) (e : lowestFrom (N + 1) 0 (getD ends 0 0) (drop 1 ends) ≡ j) (hj : j ≤ N) where

@@ -15,7 +15,7 @@ use Rattle.rules.specs.Walk.{symbolsOf}
 use Rattle.rules.specs.Check.{Verdict, refuseIf, verdict, workAfter, checkAnswerOf, checkAnswer, checkWork}
 use Rattle.rules.specs.Stream.{bitsOf, codes, header, filled}
 use Rattle.rules.specs.Writing.{stream, pageOf, startVerdict, writeVerdict, pageAfter, writeAnswerOf, writePage, writeAnswer, writeOut}
-use Rattle.rules.proofs.Check.{Case, refused-case, fine-passes}
+use Rattle.rules.proofs.Check.{refused-some, fine-passes}
 use Rattle.rules.proofs.Codes.{length-bits}
 use Rattle.rules.proofs.Names.{room}
 use Rattle.rules.proofs.Streams.{filled-length, stream-longest}
@@ -41,18 +41,6 @@ unfolding stream header
 emitted-length N n t root from r p0 p1 p2 p3 o0 o1 o2 o3 h a b c f =
     f ((bitsOf 4 N ++ bitsOf 12 (n - 1)) ++ codes (symbolsOf N n t root)) from o0 o3 (c .holds (bitsOf 4 N ++ bitsOf 12 (n - 1)) o0 (b .holds (bitsOf 4 N) o0 (a .holds [] o0 h)))
 
--- no refusal has number 0
-case-positive : (N n root : ℕ) (t : List ℕ) (room nr p : ℕ) → Case N n root t room nr p → nr ≢ 0
-case-positive N n root t room nr p (Case.dims h) e = omega arith
-case-positive N n root t room nr p (Case.darts h) e = omega arith
-case-positive N n root t room nr p (Case.tables h) e = omega arith
-case-positive N n root t room nr p (Case.work h) e = omega arith
-case-positive N n root t room nr p (Case.rootless h) e = omega arith
-case-positive N n root t room nr p (Case.entry i d F) e = omega arith
-case-positive N n root t room nr p (Case.inverse i d F) e = omega arith
-case-positive N n root t room nr p (Case.manifold k d F) e = omega arith
-case-positive N n root t room nr p (Case.unreachable d L) e = omega arith
-
 module _ (N n root : ℕ) (t work : List ℕ) (c : CheckAnswer) (ec : c ≡ checkAnswer N n root t work) where
   refused-verdict : c .number ≢ 0 → verdict N n root t (length work) ≡ Verdict.refused (c .number) (c .place)
   unfolding checkAnswer checkAnswerOf
@@ -68,7 +56,7 @@ module _ (N n root : ℕ) (t work : List ℕ) (c : CheckAnswer) (ec : c ≡ chec
     where
       go : (v : Verdict) → verdict N n root t (length work) ≡ v → checkAnswerOf v .number ≡ 0 → verdict N n root t (length work) ≡ Verdict.fine
       go Verdict.fine e z = e
-      go (Verdict.refused nr p) e z = absurd (case-positive N n root t (length work) nr p (refused-case N n root t (length work) nr p e .0) z)
+      go (Verdict.refused nr p) e z = absurd (refused-some N n root t (length work) nr p e z)
 
   -- the check's refusals
   pub write-refused : (from : ℕ) (out : List ℕ) → c .number ≢ 0

@@ -9,10 +9,11 @@ use borrow.Author.Needs.{needs}
 use Rattle.rules.specs.Lists.{sum}
 use Rattle.rules.specs.Walk.{enough}
 use Rattle.walk.specs.Numbers.{writesIn, countAfter}
+use Rattle.rules.proofs.Lists.{cond-le}
 use Rattle.rules.proofs.Ends.{Emptied, emptied-none, emptied-next}
 use Rattle.walk.proofs.Going.{lowest-head, lowest-past}
 use Rattle.writer.specs.Replays.{NumberedFrom}
-use Rattle.writer.proofs.Replays.{Replaying, replay-starts, replay-asks, replay-nearer, replay-moves, replay-ends, moved-emptied, moved-within}
+use Rattle.writer.proofs.Replays.{Replaying, replay-starts, replay-asks, replay-nearer, replay-moves, replay-ends, moved-emptied}
 use Rattle.writer.proofs.put_symbols.Statement.{statement}
 use Rattle.writer.proofs.put_symbols.Tie as tie
 
@@ -96,7 +97,7 @@ loop-again-2 c =
     let counted = countAfter (writesIn (a .dim) (a .darts) (a .tables .now) (a .work .now) (getD (l .ends) 0 0) j (getD (l .ends) (j + 1) 0)) (getD (l .ends) 0 0) in (
       search needs,
       search needs,
-      rw (k .rank) (moved-within (eqb counted (getD (l .ends) 0 0)) j (a .dim + 1) (l .inv .2)),
+      rw (k .rank) (cond-le (eqb counted (getD (l .ends) 0 0)) j 0 (a .dim + 1) (l .inv .2) (omega arith)),
       rw (k .rank, k .after) (moved-emptied (l .ends) j (getD (l .ends) (j + 1) 0 + 1) counted (omega (arith, l .inv .1)) (eqb counted (getD (l .ends) 0 0)) refl (l .inv .3)),
       λ root q. rw (k .after) (replay-moves (a .dim) (a .darts) (a .tables .now) _ (omega arith) (omega arith) (q .connected .rooted) (s .pre .1) (a .work .now) q (a .start) _ _ (l .ends) (l .inv .4 root q) j e (omega arith) (omega (arith, l .inv .1)) (k .put)),
     )
