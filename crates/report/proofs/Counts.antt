@@ -71,11 +71,11 @@ pub record Counted (N n : ℕ) (t : List ℕ) (i d tail found : ℕ) (w : List �
   pub count : found ≡ countBelow d (leads N n t i)
   pub few : found ≤ d
 
-pub counted-start : (N n : ℕ) (t : List ℕ) (i : ℕ) (w w' : List ℕ) → w' ≡ blank (2 * n) w → Counted N n t i 0 0 0 w'
-counted-start N n t i w w' e = record {
-  queue = queue-blanked n w w' e;
+pub counted-start : (N n : ℕ) (t : List ℕ) (i : ℕ) (w w' : List ℕ) → 2 * n ≤ length w → w' ≡ blank n w → Counted N n t i 0 0 0 w'
+counted-start N n t i w w' hw e = record {
+  queue = queue-blanked n w w' hw e;
   settled = λ p hf ht. absurd (omega arith);
-  traced = λ x h m. absurd (none-blanked n w w' e x h m);
+  traced = λ x h m. absurd (none-blanked n w w' hw e x h m);
   passed = λ x h. absurd (omega arith);
   count = sym (count-none (leads N n t i));
   few = omega arith;

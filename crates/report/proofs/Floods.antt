@@ -7,13 +7,13 @@ use mathlib.Core.Bool.{Bool, true, false, not, cond}
 use mathlib.Core.List.{List}
 use native.Mathlib.Omega.{arith}
 use native.Mathlib.Decide.{ℕ-discrete, decLt}
-use lib.ListN.{length, getD, set, replicate, drop, length-replicate, List·getD-append, length-set, getD-replicate}
-use lib.Seq.{getD-set-same, getD-set-other, drop-set-lt}
+use lib.ListN.{length, getD, set, replicate, drop, length-replicate, List·getD-append, length-set, getD-replicate, length-append, length-drop}
+use lib.Seq.{getD-set-same, getD-set-other, drop-set-lt, drop-drop}
 use lib.Dec.{eqb, ltb, leb}
 use borrow.Author.Tests.{eqb-true, eqb-false, eq-eqb, ne-eqb, leb-true, le-leb, ltb-true, lt-ltb}
 use Rattle.rules.specs.Map.{mark, link, blank, Reached, allBut, Valid}
 use Rattle.rules.proofs.Lists.{and-left, and-right, not-both, pigeonhole}
-use Rattle.rules.proofs.Places.{blank-room, drop-blank}
+use Rattle.rules.proofs.Places.{drop-blank}
 use Rattle.rules.proofs.Orbits.{valid-closed, reached-below}
 use Rattle.report.specs.Flood.{Marked, enteredRoom, enteredTail, Queue, Linked, between, Around, Settled, Longer, Grown, Flooded}
 
@@ -304,18 +304,22 @@ module _ {keep : ℕ → Bool} {N n : ℕ} {t : List ℕ} {start class tail tail
       go (yes h) = settled-longer v Q flooded-longer (omega arith) S p hf h
       go (no h) = F .settled p (omega arith) ht
 
--- after blanking nothing is marked
-class-blank : (n : ℕ) (w : List ℕ) (d : ℕ) → d < n → getD (blank (2 * n) w) d 0 ≡ mark
+-- after the classes are blanked nothing is marked
+class-blank : (n : ℕ) (w : List ℕ) (d : ℕ) → d < n → getD (blank n w) d 0 ≡ mark
 unfolding blank
-class-blank n w d h = List·getD-append (replicate (2 * n) mark) (drop (2 * n) w) 0 d (simp length-replicate (omega arith)) ∙ getD-replicate (2 * n) d mark 0 (omega arith)
+class-blank n w d h = List·getD-append (replicate n mark) (drop n w) 0 d (simp length-replicate (omega arith)) ∙ getD-replicate n d mark 0 h
 
-module _ (n : ℕ) (w w' : List ℕ) (e : w' ≡ blank (2 * n) w) where
+blank-length : (n : ℕ) (w : List ℕ) → n ≤ length w → length (blank n w) ≡ length w
+unfolding blank
+blank-length n w h = simp (length-append, length-replicate, length-drop) (omega arith)
+
+module _ (n : ℕ) (w w' : List ℕ) (hw : 2 * n ≤ length w) (e : w' ≡ blank n w) where
   pub class-blanked : (d : ℕ) → d < n → getD w' d 0 ≡ mark
   class-blanked d h = rw e (class-blank n w d h)
 
   pub queue-blanked : Queue n 0 w'
   queue-blanked = record {
-    room = rw e (blank-room (2 * n) w);
+    room = rw e (omega (arith, blank-length n w (omega arith)));
     short = omega arith;
     darts = λ p h. absurd (omega arith);
     classes = λ p h. absurd (omega arith);
@@ -327,4 +331,6 @@ module _ (n : ℕ) (w w' : List ℕ) (e : w' ≡ blank (2 * n) w) where
   none-blanked d h m = m (class-blanked d h)
 
   pub past-blanked : drop (2 * n) w' ≡ drop (2 * n) w
-  past-blanked = rw e (drop-blank (2 * n) w)
+  past-blanked =
+      let z : 2 * n ≡ n + n = omega arith in
+      rw (e, z, ← drop-drop n n (blank n w), ← drop-drop n n w, drop-blank n w)

@@ -51,8 +51,8 @@ module _ {N n : ℕ} {t : List ℕ} (v : Valid N n t) {start class tail tail' : 
       go (inr r) = linked-trans s (linked-wider (λ i hi k. ranked i) r)
 
 -- the N-cell of dart 0
-pub spun-start : (w₀ : List ℕ) {N n tail : ℕ} {t w w' : List ℕ} → Valid N n t → 0 < n → w ≡ blank (2 * n) w₀ → Flooded (allBut N) N n t 0 0 0 tail w w' → Spun N n t 0 tail 1 w'
-spun-start w₀ {N} {n} {tail} {t} {w} {w'} v h e F = record {
+pub spun-start : (w₀ : List ℕ) {N n tail : ℕ} {t w w' : List ℕ} → Valid N n t → 0 < n → 2 * n ≤ length w₀ → w ≡ blank n w₀ → Flooded (allBut N) N n t 0 0 0 tail w w' → Spun N n t 0 tail 1 w'
+spun-start w₀ {N} {n} {tail} {t} {w} {w'} v h hw e F = record {
   queue = F .grown .on .queue;
   settled = F .settled;
   crossed = λ p l. absurd (omega arith);
@@ -63,13 +63,13 @@ spun-start w₀ {N} {n} {tail} {t} {w} {w'} v h e F = record {
 }
   where
     Q : Queue n 0 w
-    Q = queue-blanked n w₀ w e
+    Q = queue-blanked n w₀ w hw e
 
     u : getD w 0 0 ≡ mark
-    u = class-blanked n w₀ w e 0 h
+    u = class-blanked n w₀ w hw e 0 h
 
     none : (d : ℕ) → d < n → Marked w d → ⊥
-    none = none-blanked n w₀ w e
+    none = none-blanked n w₀ w hw e
 
 -- the dart at the head of the queue
 module _ {N n head tail count : ℕ} {t w : List ℕ} (v : Valid N n t) (h : head < tail) (R : Spun N n t head tail count w) where

@@ -130,7 +130,7 @@ pub fn cells(tables: &[u16], work: &mut [u16], dim: usize, darts: usize, skip: u
     requires { ⌜ Limits dim darts (now tables) × Valid dim darts (now tables) × (2 * darts ≤ length (now work)) × (skip ≤ dim) ⌝ }
     ensures { λ r. ⌜ (r ≡ Rattle.rules.specs.Report.cells dim darts (now (tables .entry)) skip) × (drop (2 * darts) (now (work .exit)) ≡ drop (2 * darts) (now (work .entry))) ⌝ }
 {
-    tables::blank(work, 2 * darts);
+    tables::blank(work, darts);
     let mut found: u32 = 0;
     let mut tail = 0;
     let mut d = 0;
@@ -251,7 +251,7 @@ pub fn span(tables: &[u16], work: &mut [u16], dim: usize, darts: usize) -> u32
     requires { ⌜ Limits dim darts (now tables) × Valid dim darts (now tables) × (2 * darts ≤ length (now work)) ⌝ }
     ensures { λ r. ⌜ Spanned dim darts (now (tables .entry)) r (now (work .exit)) × (drop (2 * darts) (now (work .exit)) ≡ drop (2 * darts) (now (work .entry))) ⌝ }
 {
-    tables::blank(work, 2 * darts);
+    tables::blank(work, darts);
     let tail = flood(tables, work, dim, darts, dim, 0, 0, 0);
     let mut s = Spanning { tail, cells: 1 };
     let mut head = 0;

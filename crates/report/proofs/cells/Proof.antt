@@ -16,14 +16,11 @@ Inv-loop tables work₀ dim darts skip found₀ tail₀ d₀ work found tail d =
 abbrev μ-loop : tie.MeasureT-loop
 μ-loop tables work₀ dim darts skip found₀ tail₀ d₀ work found tail d = darts - d
 
-mul-blank : tie.Need-mul-blank Inv-loop μ-loop
-mul-blank c = omega arith
-
 blank-requires : tie.Need-blank-requires Inv-loop μ-loop
 blank-requires c κs = omega arith
 
 loop-holds : tie.Need-loop-holds Inv-loop μ-loop
-loop-holds c = (refl, omega arith, counted-start _ _ _ _ _ _ (c .before .before .blank .ensures), refl)
+loop-holds c = (refl, omega arith, counted-start _ _ _ _ _ _ (omega arith) (c .before .before .blank .ensures), refl)
 
 mul-if1 : tie.Need-mul-if1 Inv-loop μ-loop
 mul-if1 c = omega arith
@@ -63,9 +60,9 @@ same-length c = c .before .loop .inv .0 ∙ c .before .before .before .before .b
 returns : tie.Need-returns Inv-loop μ-loop
 returns c =
     let l = c .before .loop in
-    (counted-end (l .inv .2) (omega arith), l .inv .3 ∙ past-blanked _ _ _ (c .before .before .before .before .blank .ensures))
+    (counted-end (l .inv .2) (omega arith), l .inv .3 ∙ past-blanked _ _ _ (omega arith) (c .before .before .before .before .blank .ensures))
 
 pub cells-spec : {M : Type 1} → statement M
 cells-spec =
     tie.close
-    (tie.spec Inv-loop μ-loop mul-blank blank-requires loop-holds mul-if1 slice-read-if1 cast-flood flood-requires add-found add-d loop-less loop-again same-length returns)
+    (tie.spec Inv-loop μ-loop blank-requires loop-holds mul-if1 slice-read-if1 cast-flood flood-requires add-found add-d loop-less loop-again same-length returns)

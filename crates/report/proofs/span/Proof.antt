@@ -15,21 +15,18 @@ Inv-loop tables work₀ dim darts tail s₀ head₀ work s head = (length work �
 abbrev μ-loop : tie.MeasureT-loop
 μ-loop tables work₀ dim darts tail s₀ head₀ work s head = darts - head
 
-mul-blank : tie.Need-mul-blank Inv-loop μ-loop
-mul-blank c = omega arith
-
 blank-requires : tie.Need-blank-requires Inv-loop μ-loop
 blank-requires c κs = omega arith
 
 flood-requires : tie.Need-flood-requires Inv-loop μ-loop
 flood-requires c κs =
     let p = c .before .before .before .before .before .before .before .pre in
-    (p .0, p .1, queue-blanked _ _ _ (c .before .before .before .blank .ensures), omega arith, omega arith, omega arith)
+    (p .0, p .1, queue-blanked _ _ _ (omega arith) (c .before .before .before .blank .ensures), omega arith, omega arith, omega arith)
 
 loop-holds : tie.Need-loop-holds Inv-loop μ-loop
 loop-holds c =
     let p = c .before .before .before .before .before .before .before .before .before .before .pre in
-    (refl, spun-start _ (p .1) (omega arith) (c .before .before .before .before .before .before .blank .ensures) (c .before .before .flood .ensures), refl)
+    (refl, spun-start _ (p .1) (omega arith) (omega arith) (c .before .before .before .before .before .before .blank .ensures) (c .before .before .flood .ensures), refl)
 
 span-step-requires : tie.Need-span-step-requires Inv-loop μ-loop
 span-step-requires c κs =
@@ -56,7 +53,7 @@ returns c =
     let p = c .before .before .before .before .before .before .before .before .before .before .before .before .before .pre in
     let l = c .before .before .loop in
     let e = c .before .before .before .before .before .before .before .before .before .blank .ensures in
-    (spun-end (p .1) (omega arith) (l .inv .1) (c .if1 .left), l .inv .2 ∙ (flooded-longer (queue-blanked _ _ _ e) (omega arith) (omega arith) (c .before .before .before .before .before .flood .ensures) .past ∙ past-blanked _ _ _ e))
+    (spun-end (p .1) (omega arith) (l .inv .1) (c .if1 .left), l .inv .2 ∙ (flooded-longer (queue-blanked _ _ _ (omega arith) e) (omega arith) (omega arith) (c .before .before .before .before .before .flood .ensures) .past ∙ past-blanked _ _ _ (omega arith) e))
 
 pub span-spec : {M : Type 1} → statement M
-span-spec = tie.close (tie.spec Inv-loop μ-loop mul-blank blank-requires flood-requires loop-holds span-step-requires add-head loop-less loop-again same-length returns)
+span-spec = tie.close (tie.spec Inv-loop μ-loop blank-requires flood-requires loop-holds span-step-requires add-head loop-less loop-again same-length returns)
