@@ -1,2 +1,3 @@
 pub mod Replays
 pub mod Writes
+pub mod Demands

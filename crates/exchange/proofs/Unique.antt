@@ -1,0 +1,51 @@
+-- One answer, for the surface: from two numbers returned and two states of the rooms that meet the contract of a call for C, equality. Rests on the rules' Unique.
+use Prim.Native.Nat.{ℕ}
+use mathlib.Core.Path.{_≡_, ap, sym, _∙_}
+use mathlib.Core.List.{List}
+use lib.ListN.{getD}
+use Rattle.rules.specs.Check.{checkAnswer, checkWork}
+use Rattle.rules.specs.Reading.{readAnswer, readTables}
+use Rattle.rules.specs.Report.{reportAnswer, reportWork}
+use Rattle.rules.specs.Session.{opened}
+use Rattle.rules.specs.Writing.{writeAnswer, writeOut, writeWork}
+use Rattle.rules.proofs.Unique.{one-value}
+use Rattle.exchange.specs.Stored.{checkNumbers, writeNumbers, readNumbers, reportNumbers, storedSession, Lent, lent, pageLent, closeLent}
+
+pub one-kz-check : (N n root : ℕ) (t work : List ℕ) (r r' : ℕ) (a a' u u' : List ℕ)
+    → (r ≡ checkAnswer N n root t work .number) × (a ≡ checkNumbers (checkAnswer N n root t work)) × (u ≡ checkWork N n root t work)
+    → (r' ≡ checkAnswer N n root t work .number) × (a' ≡ checkNumbers (checkAnswer N n root t work)) × (u' ≡ checkWork N n root t work) → (r ≡ r') × (a ≡ a') × (u ≡ u')
+one-kz-check N n root t work r r' a a' u u' (p, q, s) (p', q', s') = (one-value _ _ _ p p', one-value _ _ _ q q', one-value _ _ _ s s')
+
+pub one-kz-write : (N n root start : ℕ) (t work out : List ℕ) (r r' : ℕ) (a a' u u' o o' : List ℕ)
+    → (r ≡ writeAnswer N n root start t work out .number) × (a ≡ writeNumbers (writeAnswer N n root start t work out)) × (u ≡ writeWork N n root t work) × (o ≡ writeOut N n root start t work out)
+    → (r' ≡ writeAnswer N n root start t work out .number) × (a' ≡ writeNumbers (writeAnswer N n root start t work out)) × (u' ≡ writeWork N n root t work) × (o' ≡ writeOut N n root start t work out)
+    → (r ≡ r') × (a ≡ a') × (u ≡ u') × (o ≡ o')
+one-kz-write N n root start t work out r r' a a' u u' o o' (p, q, s, z) (p', q', s', z') = (one-value _ _ _ p p', one-value _ _ _ q q', one-value _ _ _ s s', one-value _ _ _ z z')
+
+pub one-kz-read : (bytes t : List ℕ) (r r' : ℕ) (a a' u u' : List ℕ)
+    → (r ≡ readAnswer bytes t .number) × (a ≡ readNumbers (readAnswer bytes t)) × (u ≡ readTables bytes t)
+    → (r' ≡ readAnswer bytes t .number) × (a' ≡ readNumbers (readAnswer bytes t)) × (u' ≡ readTables bytes t) → (r ≡ r') × (a ≡ a') × (u ≡ u')
+one-kz-read bytes t r r' a a' u u' (p, q, s) (p', q', s') = (one-value _ _ _ p p', one-value _ _ _ q q', one-value _ _ _ s s')
+
+pub one-kz-report : (N n : ℕ) (t work : List ℕ) (r r' : ℕ) (a a' u u' : List ℕ)
+    → (r ≡ reportAnswer N n t work .number) × (a ≡ reportNumbers (reportAnswer N n t work)) × (u ≡ reportWork N n t work)
+    → (r' ≡ reportAnswer N n t work .number) × (a' ≡ reportNumbers (reportAnswer N n t work)) × (u' ≡ reportWork N n t work) → (r ≡ r') × (a ≡ a') × (u ≡ u')
+one-kz-report N n t work r r' a a' u u' (p, q, s) (p', q', s') = (one-value _ _ _ p p', one-value _ _ _ q q', one-value _ _ _ s s')
+
+pub one-kz-open : (k k' : List ℕ) → k ≡ storedSession opened → k' ≡ storedSession opened → k ≡ k'
+one-kz-open k k' p q = one-value k k' (storedSession opened) p q
+
+-- the rooms of a session's call, whichever it is, and the number that it returns
+one-lent : (z : Lent) (r r' : ℕ) (k k' a a' t t' : List ℕ) → (lent k a t ≡ z) × (r ≡ getD a 0 0) → (lent k' a' t' ≡ z) × (r' ≡ getD a' 0 0) → (r ≡ r') × (k ≡ k') × (a ≡ a') × (t ≡ t')
+one-lent z r r' k k' a a' t t' (p, q) (p', q') =
+    let e : lent k a t ≡ lent k' a' t' = one-value _ _ z p p' in
+    let d : a ≡ a' = ap (λ (x : Lent). x .answer) e in
+    (q ∙ (ap (λ (l : List ℕ). getD l 0 0) d ∙ sym q'), ap (λ (x : Lent). x .numbers) e, d, ap (λ (x : Lent). x .tables) e)
+
+pub one-kz-page : (kept bytes tables : List ℕ) (r r' : ℕ) (k k' a a' t t' : List ℕ) → (lent k a t ≡ pageLent kept bytes tables) × (r ≡ getD a 0 0)
+    → (lent k' a' t' ≡ pageLent kept bytes tables) × (r' ≡ getD a' 0 0) → (r ≡ r') × (k ≡ k') × (a ≡ a') × (t ≡ t')
+one-kz-page kept bytes tables r r' k k' a a' t t' x y = one-lent (pageLent kept bytes tables) r r' k k' a a' t t' x y
+
+pub one-kz-close : (kept tables : List ℕ) (r r' : ℕ) (k k' a a' t t' : List ℕ) → (lent k a t ≡ closeLent kept tables) × (r ≡ getD a 0 0)
+    → (lent k' a' t' ≡ closeLent kept tables) × (r' ≡ getD a' 0 0) → (r ≡ r') × (k ≡ k') × (a ≡ a') × (t ≡ t')
+one-kz-close kept tables r r' k k' a a' t t' x y = one-lent (closeLent kept tables) r r' k k' a a' t t' x y
