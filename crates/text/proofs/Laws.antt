@@ -1,29 +1,44 @@
 -- Laws of a text put into a room: none, one byte more, one text after another, a row of them; and which text a listing is. Rests on nothing.
-use Prim.Native.Nat.{ℕ, _+_, _*_, _≤_, _<_}
+use Prim.Native.Nat.{ℕ, zero, suc, _+_, _*_, _-_, _≤_, _<_}
 use mathlib.Core.Path.{_≡_, refl, ap, sym, _∙_}
 use mathlib.Core.Logic.{_≢_}
 use mathlib.Core.List.{List, [], _∷_, _++_, append-assoc, append-nil}
 use native.Mathlib.Omega.{arith}
 use native.Mathlib.Nat.{min-eq-left}
 use native.Mathlib.Numerals.{add-one}
-use lib.ListN.{length, getD, take, set, length-append, length-set, length-take}
-use lib.Seq.{take-suc, take-suc-set, take-length}
+use lib.ListN.{length, getD, take, drop, set, length-append, length-set, length-take, take-append-drop}
+use lib.Seq.{take-suc, take-suc-set, take-length, drop-drop}
 use borrow.Author.Tests.{eq-eqb, ne-eqb}
 use Rattle.io.specs.Counts.{Counts}
 use Rattle.rules.specs.declared.ReadAnswer.{ReadAnswer}
 use Rattle.rules.specs.declared.ReportAnswer.{ReportAnswer}
-use Rattle.text.specs.Room.{Wrote}
+use Rattle.text.specs.Room.{Wrote, begun}
 use Rattle.text.specs.Listing.{each, refusalLine, mapText, textBy, listing}
 
 pub wrote-none : (out : List ℕ) (at r : ℕ) → r ≡ at → Wrote out at [] out r
-wrote-none out at r e = record { ends = omega arith; room = refl; text = rw e (sym (append-nil (take at out))) }
+wrote-none out at r e = record { ends = omega arith; room = refl; text = rw e (sym (append-nil (take at out))); past = refl }
+
+-- what stands after an entry does not depend on it
+drop-set : (l : List ℕ) (i x : ℕ) → drop (i + 1) (set l i x) ≡ drop (i + 1) l
+drop-set l i x = rw add-one (go l i)
+  where
+    go : (l : List ℕ) (i : ℕ) → drop (suc i) (set l i x) ≡ drop (suc i) l
+    go [] zero = refl
+    go [] (suc i) = refl
+    go (y ∷ l) zero = refl
+    go (y ∷ l) (suc i) = go l i
 
 module _ {out : List ℕ} {at : ℕ} {w o : List ℕ} {r : ℕ} (p : Wrote out at w o r) where
+  -- past the text, and so past any later place, the room is as it was
+  further : (q : ℕ) → r ≤ q → drop q o ≡ drop q out
+  further q h = let e : q ≡ r + (q - r) = omega arith in rw (e, ← drop-drop (q - r) r o, ← drop-drop (q - r) r out) (ap (λ (l : List ℕ). drop (q - r) l) (p .past))
+
   pub wrote-next : (x q : ℕ) → q ≡ r + 1 → r < length o → Wrote out at (w ++ (x ∷ [])) (set o r x) q
   wrote-next x q e h = record {
     ends = simp length-append (omega (arith, p .ends));
     room = simp length-set (p .room);
     text = rw (e, add-one) (take-suc-set o r x h ∙ (ap (λ (l : List ℕ). l ++ (x ∷ [])) (p .text) ∙ append-assoc (take at out) w (x ∷ [])));
+    past = rw e (drop-set o r x ∙ further (r + 1) (omega arith));
   }
 
   pub wrote-then : {v o' : List ℕ} {q : ℕ} → Wrote o r v o' q → Wrote out at (w ++ v) o' q
@@ -31,11 +46,12 @@ module _ {out : List ℕ} {at : ℕ} {w o : List ℕ} {r : ℕ} (p : Wrote out a
     ends = simp length-append (omega (arith, p .ends, s .ends));
     room = s .room ∙ p .room;
     text = s .text ∙ (ap (λ (l : List ℕ). l ++ v) (p .text) ∙ append-assoc (take at out) w v);
+    past = s .past ∙ further q (omega (arith, s .ends));
   }
 
   -- the text under another name
   pub wrote-same : {v : List ℕ} → w ≡ v → Wrote out at v o r
-  wrote-same e = record { ends = p .ends ∙ ap (λ (l : List ℕ). at + length l) e; room = p .room; text = p .text ∙ ap (λ (l : List ℕ). take at out ++ l) e }
+  wrote-same e = record { ends = p .ends ∙ ap (λ (l : List ℕ). at + length l) e; room = p .room; text = p .text ∙ ap (λ (l : List ℕ). take at out ++ l) e; past = p .past }
 
 -- one byte more of a word
 pub take-more : (l : List ℕ) (i : ℕ) → i < length l → take i l ++ (getD l i 0 ∷ []) ≡ take (i + 1) l
@@ -68,11 +84,12 @@ module _ {out : List ℕ} {at k : ℕ} {f : ℕ → List ℕ} {o : List ℕ} {en
   pub row-end : (n : ℕ) → i ≡ n → Wrote out at (each n f) o end × (end ≤ at + k * n)
   row-end n e = (wrote-same (p .wrote) (ap (λ (x : ℕ). each x f) e), rw (sym e) (p .short))
 
--- a text that begins the room is what the room holds up to its end
-pub listed : {out w o v : List ℕ} {r k : ℕ} → Wrote out 0 w o r → r ≤ k → k ≤ length out → w ≡ v → (take r o ≡ v) × Counts r o
+-- a text that begins the room is what the room holds up to its end, and the rest is as it was
+pub listed : {out w o v : List ℕ} {r k : ℕ} → Wrote out 0 w o r → r ≤ k → k ≤ length out → w ≡ v → ((r ≡ length v) × (o ≡ begun v out)) × Counts r o
 listed {out} {w} {o} {v} {r} p h l e =
     let b : r ≤ length o = omega (arith, p .room) in
-    (p .text ∙ e, (b, sym (length-take r o ∙ min-eq-left b)))
+    let n : r ≡ length v = p .ends ∙ rw e (omega arith) in
+    ((n, sym (take-append-drop r o) ∙ rw (p .text, p .past, e, n)), (b, sym (length-take r o ∙ min-eq-left b)))
 
 -- which text it is
 module _ (a : ReadAnswer) (r : ReportAnswer) (t : List ℕ) where

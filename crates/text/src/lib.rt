@@ -4,10 +4,10 @@ use rules::ReportAnswer;
 ghost use mathlib.Core.Path.{_≡_};
 ghost use mathlib.Core.List.{_++_};
 ghost use Prim.Native.Nat.{suc, _+_, _*_, _≤_};
-ghost use lib.ListN.{length, getD, take};
+ghost use lib.ListN.{length, getD};
 ghost use Rattle.io.specs.Counts.{Counts};
 ghost use Rattle.rules.specs.Map.{Limits};
-ghost use Rattle.text.specs.Room.{Wrote};
+ghost use Rattle.text.specs.Room.{Wrote, begun};
 ghost use Rattle.text.specs.Listing.{numeral, spaced, each, lineEnd, firstLine, links, dartLine, dartLines, cellsLine, freeLine, stepsLine, mapText, refusalLine};
 
 // A word from at on; answers where it ends.
@@ -184,7 +184,7 @@ pub fn put_refusal(out: &mut [u8], number: u32, place: u32) -> usize
 // The text of a listing: what was read and its report, or the refusal of either.
 pub fn listing(out: &mut [u8], a: ReadAnswer, r: ReportAnswer, tables: &[u16]) -> usize
     requires { ⌜ (r .number ≡ 0 → Limits (a .dim) (a .darts) (now tables)) × (688392 ≤ length (now out)) ⌝ }
-    ensures { λ k. ⌜ take k (now (out .exit)) ≡ Rattle.text.specs.Listing.listing a r (now (tables .entry)) ⌝ }
+    ensures { λ k. let text = Rattle.text.specs.Listing.listing a r (now (tables .entry)) in ⌜ (k ≡ length text) × (now (out .exit) ≡ begun text (now (out .entry))) ⌝ }
     ensures { λ k. ⌜ Counts k (now (out .exit)) ⌝ }
 {
     if a.number != 0 {
