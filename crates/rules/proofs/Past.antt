@@ -7,25 +7,36 @@ use mathlib.Core.Bool.{Bool, true, false, not, _&&_, _||_, cond}
 use mathlib.Core.List.{List, [], _∷_, _++_, append-cancel-right}
 use native.Mathlib.Omega.{arith}
 use native.Mathlib.Decide.{decLe}
-use lib.ListN.{length, getD, take, drop, length-take, take-append-drop}
+use lib.ListN.{length, getD, take, drop, length-append, length-take, take-append-drop}
 use lib.Seq.{take-all, getD-take, length-take-le, take-append-le}
 use lib.Dec.{eqb, ltb, leb}
-use borrow.Author.Tests.{le-ltb, le-leb}
+use borrow.Author.Tests.{leb-true, le-ltb, le-leb}
 use Rattle.rules.specs.declared.Pair.{Pair}
+use Rattle.rules.specs.declared.Session.{Session}
+use Rattle.rules.specs.declared.State.{State}
+use Rattle.rules.specs.declared.State.the-variants.{Header, Running, Complete, Closed, Refused}
 use Rattle.rules.specs.Lists.{listOf, allBelow, someBelow, scan, first}
 use Rattle.rules.specs.Map.{mark, dimFits, dartsFit, size, link, pairs, pairsFor, pairsOf, pairAt, broken, firstBroken, allRanks, spread, within, reaches}
-use Rattle.rules.specs.Walk.{Walked, walked, namesOf, symbolsOf}
-use Rattle.rules.specs.Stream.{header, codes, filled}
+use Rattle.rules.specs.Walk.{Walk, start, Head, head, unknown, Partner, partner, pass, tie, steps, Symbol, apply, enough, Walked, walked, namesOf, symbolsOf}
+use Rattle.rules.specs.Stream.{value, unpack, header, codes, filled, Taken, takeSymbol}
 use Rattle.rules.specs.Check.{Verdict, refuseIf, outside, twisted, unreached, tablesVerdict, verdict, numbering, workAfter, checkAnswerOf, checkAnswer, checkWork}
 use Rattle.rules.specs.Writing.{stream, startVerdict, writeVerdict, pageAfter, writeAnswerOf, writePage, writeAnswer, writeOut, writeWork}
+use Rattle.rules.specs.Reading.{Run, Step, permitted, fault, allow, stepTaken, stepWith, stepAt, step, onward, run, runAll, Reading, spoiled, test, manifold, finish, settle, begun, headerDim, headerDarts, readHeader, readingOf, closing, goodAnswer, answerOf, tablesOf, readWhole, readAnswer, readTables}
+use Rattle.rules.specs.Session.{idle, held, store, walkOf, waitingOf, valueFits, entryFits, entriesFit, walkFits, asks, begins, fitAs, fit, Left, unchanged, leaves, goOn, afterEnd, pageAs, closeAs, ifFit, page, close}
 use Rattle.rules.specs.Report.{cells, cellCounts, reportAnswerOf, reportAnswer, reportWork}
-use Rattle.rules.proofs.Places.{nth-some, nth-rank, Alike, link-alike}
+use Rattle.rules.proofs.Places.{nth-some, nth-rank, Alike, link-alike, blank-past}
 use Rattle.rules.proofs.Pairs.{nth, nth-fits, prefix-within}
 use Rattle.rules.proofs.Orbits.{valid-closed}
 use Rattle.rules.proofs.Cells.{report-map-alone}
 use Rattle.rules.proofs.Check.{fine-passes}
-use Rattle.rules.proofs.Readings.{dim-fits}
-use Rattle.rules.proofs.Tails.{walked-alike}
+use Rattle.rules.proofs.Positions.{Next}
+use Rattle.rules.proofs.Walks.{Inv, start-inv, next-of}
+use Rattle.rules.proofs.Moves.{moved, step-move}
+use Rattle.rules.proofs.Runs.{moves-inv, Final, ran}
+use Rattle.rules.proofs.Readings.{dim-fits, header-darts}
+use Rattle.rules.proofs.Fitness.{Fits, fits-inv, running-part}
+use Rattle.rules.proofs.Sessions.{headerSize, reachAs, reach, page-past, close-past, read-past, reading-fits}
+use Rattle.rules.proofs.Tails.{tailed, link-tailed, partner-tailed, deduced-tailed, apply-tailed, walked-alike}
 
 -- tests that agree below k agree on what is asked of all numbers below k, of some, and of the first
 all-same : (k : ℕ) (f g : ℕ → Bool) → ((i : ℕ) → i < k → f i ≡ g i) → allBelow k f ≡ allBelow k g
@@ -221,3 +232,284 @@ report-alike N n t u work A = (rw same (go (verdict N n 0 u (length work)) refl)
         let (c, f, o) = report-map-alone (valid-closed (P .valid)) (valid-closed (Q .valid)) (P .limits .darts .0) (λ i d hi hd. links N n t u A i d hi) in
         rw (counts c, f, o)
     go (Verdict.refused nr p) e = refl
+
+-- The reader: its walk carries along what stands behind its tables, so a call on longer tables is the call on the entries alone, with the rest carried along.
+
+-- a run, a step, a reading and what a call leaves, with more entries behind
+unfoldable runTailed : List ℕ → Run → Run
+runTailed x (Run.ended w bs) = Run.ended (tailed w x) bs
+runTailed x (Run.waits w bs) = Run.waits (tailed w x) bs
+runTailed x (Run.refused nr w) = Run.refused nr (tailed w x)
+
+unfoldable stepTailed : List ℕ → Step → Step
+stepTailed x (Step.goes w bs) = Step.goes (tailed w x) bs
+stepTailed x (Step.stops r) = Step.stops (runTailed x r)
+
+unfoldable readingTailed : List ℕ → Reading → Reading
+readingTailed x (Reading.header bs) = Reading.header bs
+readingTailed x (Reading.running w bs) = Reading.running (tailed w x) bs
+readingTailed x (Reading.complete w) = Reading.complete (tailed w x)
+readingTailed x (Reading.closed w) = Reading.closed (tailed w x)
+readingTailed x (Reading.refused nr p u) = Reading.refused nr p (u ++ x)
+
+unfoldable pub leftTailed : List ℕ → Left → Left
+leftTailed x l = record { session = l .session; answer = l .answer; tables = l .tables ++ x }
+
+module _ (w : Walk) (x : List ℕ) (v : Inv w) (bs : List Bool) where
+  allow-tailed : (b : Bool) (nr : ℕ) (w1 y : Walk) (rest : List Bool) → (b ≡ true → y ≡ tailed w1 x) → allow b nr (tailed w x) y rest ≡ stepTailed x (allow b nr w w1 rest)
+  unfolding allow stepTailed runTailed
+  allow-tailed true nr w1 y rest f = ap (λ (z : Walk). Step.goes z rest) (f refl)
+  allow-tailed false nr w1 y rest f = refl
+
+  permitted-tailed : (j b : ℕ) (s : Symbol) → j ≤ w .dim → permitted (tailed w x) j b s ≡ permitted w j b s
+  unfolding permitted unknown
+  permitted-tailed j b Symbol.new hj = unfold tailed in refl
+  permitted-tailed j b Symbol.border hj = refl
+  permitted-tailed j b (Symbol.index e) hj = rw (link-tailed w x (v .shape) j e hj) (unfold tailed in refl)
+
+  step-carried : step (tailed w x) bs ≡ stepTailed x (step w bs)
+  unfolding step tailed
+  step-carried = at (head w) refl
+    where
+      taken : (j b : ℕ) → Next w j b → (k : Taken) → stepTaken (tailed w x) bs j b k ≡ stepTailed x (stepTaken w bs j b k)
+      taken j b n Taken.short = unfold stepTaken stepTailed runTailed in refl
+      taken j b n (Taken.symbol s rest) = unfold stepTaken in
+          rw (permitted-tailed j b s (n .ranked)) (allow-tailed (permitted w j b s) (fault s) (apply w j b s) (apply (tailed w x) j b s) rest (λ p. apply-tailed w x v j b s n p))
+
+      with' : (j b : ℕ) → head w ≡ Head.at j b → (p : Partner) → partner w j b ≡ p → stepWith (tailed w x) bs j b p ≡ stepTailed x (stepWith w bs j b p)
+      with' j b h Partner.known p = unfold stepWith stepTailed pass in refl
+      with' j b h (Partner.deduced e) p = unfold stepWith unknown in
+          rw (link-tailed w x (v .shape) j e (next-of w v h .next .ranked)) (allow-tailed (unknown w j e) 14 (tie w j b e) (tie (tailed w x) j b e) bs (λ q. deduced-tailed w x v j b e h p))
+      with' j b h Partner.asked p = unfold stepWith in taken j b (next-of w v h .next) (takeSymbol bs)
+
+      at : (h : Head) → head w ≡ h → stepAt (tailed w x) bs h ≡ stepTailed x (stepAt w bs h)
+      at Head.none h = unfold stepAt stepTailed runTailed in refl
+      at (Head.at j b) h = unfold stepAt in rw (partner-tailed w x (v .shape) j b (next-of w v h .next .ranked)) (with' j b h (partner w j b) refl)
+
+run-carried : (k : ℕ) (w : Walk) (x : List ℕ) (bs : List Bool) → Inv w → run k (tailed w x) bs ≡ runTailed x (run k w bs)
+unfolding run
+run-carried zero w x bs v = unfold runTailed in refl
+run-carried (suc k) w x bs v = rw (step-carried w x v bs) (go (λ w' bs' v'. run-carried k w' x bs' v') (step w bs) refl)
+  where
+    go : ((w' : Walk) (bs' : List Bool) → Inv w' → run k (tailed w' x) bs' ≡ runTailed x (run k w' bs'))
+        → (s : Step) → step w bs ≡ s → onward (λ w' bs'. run k w' bs') (stepTailed x s) ≡ runTailed x (onward (λ w' bs'. run k w' bs') s)
+    go rec (Step.goes w' bs') e = unfold onward stepTailed in let y = step-move w bs w' bs' e in rec w' bs' (moved w w' (y .out) v (y .move) .inv)
+    go rec (Step.stops r) e = unfold onward stepTailed in refl
+
+module _ (w : Walk) (x : List ℕ) (h : size (w .dim) (w .darts) ≤ length (w .links)) where
+  spoiled-tailed : (nr : ℕ) → spoiled nr (tailed w x) ≡ readingTailed x (spoiled nr w)
+  unfolding spoiled readingTailed tailed steps
+  spoiled-tailed nr = rw (blank-past (size (w .dim) (w .darts)) (w .links) x h)
+
+  test-tailed : (b : Bool) (nr : ℕ) (r r' : Reading) → r' ≡ readingTailed x r → test b nr (tailed w x) r' ≡ readingTailed x (test b nr w r)
+  unfolding test
+  test-tailed true nr r r' e = e
+  test-tailed false nr r r' e = spoiled-tailed nr
+
+  finish-tailed : w .dim ≤ 6 → (rest : List Bool) → finish (tailed w x) rest ≡ readingTailed x (finish w rest)
+  unfolding finish manifold readingTailed tailed
+  finish-tailed h6 rest =
+      rw (manifold-alike (w .dim) (w .darts) (w .links ++ x) (w .links) (take-append-le (size (w .dim) (w .darts)) (w .links) x h) h6)
+      (test-tailed (eqb (w .count) (w .darts)) 15 _ _
+      (test-tailed (manifold w) 16 _ _
+      (test-tailed (eqb (value (take (length rest % 8) rest)) 0) 17 _ _
+      (test-tailed (eqb (length rest / 8) 0) 18 (Reading.complete w) (Reading.complete (tailed w x)) refl))))
+
+-- where a run leaves the reading
+settle-carried : (w : Walk) (x : List ℕ) (bs : List Bool) → Inv w → settle (runAll (tailed w x) bs) ≡ readingTailed x (settle (runAll w bs))
+unfolding runAll tailed
+settle-carried w x bs v = ap settle (run-carried k w x bs v) ∙ go (run k w bs) (ran k w bs)
+  where
+    k : ℕ
+    k = enough (w .dim) (w .darts)
+
+    go : (r : Run) → Final w bs r → settle (runTailed x r) ≡ readingTailed x (settle r)
+    go _ (Final.ended {w' = w1} {rest = r1} y o) = unfold settle runTailed in let s = moves-inv (y .moves) v .shape in finish-tailed w1 x (s .table) (s .ranks) r1
+    go _ (Final.waits y) = unfold settle runTailed readingTailed in refl
+    go _ (Final.refused {w' = w1} nr lo hi y) = unfold settle runTailed in spoiled-tailed w1 x (moves-inv (y .moves) v .shape .table) nr
+
+-- what the bits so far come to
+reading-carried : (bits : List Bool) (m x : List ℕ) → headerSize bits ≤ length m → readingOf bits (m ++ x) ≡ readingTailed x (readingOf bits m)
+unfolding readingOf headerSize
+reading-carried bits m x h = go (leb 16 (length bits)) refl h
+  where
+    N : ℕ
+    N = headerDim bits
+
+    n : ℕ
+    n = headerDarts bits
+
+    from : size N n ≤ length m → start N n (m ++ x) ≡ tailed (start N n m) x
+    from h = unfold start tailed in rw (blank-past (size N n) m x h)
+
+    body : 16 ≤ length bits → (a : Bool) → dimFits N ≡ a → cond (true && a) (size N n) 0 ≤ length m
+        → begun a (leb (size N n) (length (m ++ x))) N n (drop 16 bits) (m ++ x) ≡ readingTailed x (begun a (leb (size N n) (length m)) N n (drop 16 bits) m)
+    body l false q h = unfold begun readingTailed in refl
+    body l true q h =
+        let (lo, hi) = header-darts bits l in
+        let v = start-inv N n m lo hi (dim-fits N q .1) in
+        rw (le-leb (size N n) (length m) h, le-leb (size N n) (length (m ++ x)) (simp length-append (omega arith)))
+        (unfold begun in rw (from h) (settle-carried (start N n m) x (drop 16 bits) v))
+
+    go : (b : Bool) → leb 16 (length bits) ≡ b → cond (b && dimFits N) (size N n) 0 ≤ length m → readHeader b bits (m ++ x) ≡ readingTailed x (readHeader b bits m)
+    go false q h = unfold readHeader readingTailed in refl
+    go true q h = unfold readHeader in body (leb-true 16 (length bits) q) (dimFits N) refl h
+
+-- closing
+closing-carried : {r : Reading} → Fits r → (t x : List ℕ) → closing (readingTailed x r) (t ++ x) ≡ readingTailed x (closing r t)
+unfolding closing readingTailed
+closing-carried (Fits.header h) t x = refl
+closing-carried (Fits.running {w} v h a) t x = spoiled-tailed w x (v .shape .table) 11
+closing-carried (Fits.complete v h o c) t x = refl
+closing-carried (Fits.refused h) t x = refl
+
+leaves-carried : (r : Reading) (t x : List ℕ) → leaves (readingTailed x r) (t ++ x) ≡ leftTailed x (leaves r t)
+unfolding leaves readingTailed leftTailed store held idle answerOf goodAnswer tablesOf tailed steps
+leaves-carried (Reading.header bs) t x = refl
+leaves-carried (Reading.running w bs) t x = refl
+leaves-carried (Reading.complete w) t x = refl
+leaves-carried (Reading.closed w) t x = refl
+leaves-carried (Reading.refused nr p u) t x = refl
+
+-- one whole read
+pub read-carried : (bytes m x : List ℕ) → headerSize (unpack bytes) ≤ length m → leaves (readWhole bytes (m ++ x)) (m ++ x) ≡ leftTailed x (leaves (readWhole bytes m) m)
+unfolding readWhole
+read-carried bytes m x h = rw (reading-carried (unpack bytes) m x h, closing-carried (reading-fits bytes m) m x) (leaves-carried (closing (readingOf (unpack bytes) m) m) m x)
+
+-- fitness
+walk-fits-alike : (s : Session) (t u : List ℕ) → Alike (size (s .dim) (s .darts)) t u → walkFits s t ≡ walkFits s u
+unfolding walkFits entriesFit
+walk-fits-alike s t u A = rw (room-alike (s .dim) (s .darts) t u A, all-same (size (s .dim) (s .darts)) (entry t) (entry u) (λ k h. rw (nth-alike (s .dim) (s .darts) t u A k h (k % s .darts))))
+  where
+    entry : List ℕ → ℕ → Bool
+    entry l k = entryFits s (k / s .darts) (k % s .darts) (link (s .dim) (s .darts) l (k / s .darts) (k % s .darts))
+
+asks-tailed : (w : Walk) (x : List ℕ) → Inv w → asks (tailed w x) (head w) ≡ asks w (head w)
+asks-tailed w x v = go (head w) refl
+  where
+    go : (h : Head) → head w ≡ h → asks (tailed w x) h ≡ asks w h
+    go Head.none h = unfold asks in refl
+    go (Head.at j b) h = unfold asks in rw (partner-tailed w x (v .shape) j b (next-of w v h .next .ranked))
+
+module _ (s : Session) (seven : length (s .positions) ≡ 7) (ys : List Bool) (m x : List ℕ) where
+  fit-as-carried : (st : State) → reachAs st s ys ≤ length m → fitAs st s (m ++ x) ≡ fitAs st s m
+  unfolding reachAs fitAs walkOf tailed
+  fit-as-carried Header h = refl
+  fit-as-carried Running h = rw (walk-fits-alike s (m ++ x) m (take-append-le (size (s .dim) (s .darts)) m x h)) (go (walkFits s m) refl)
+    where
+      go : (b : Bool) → walkFits s m ≡ b
+          → (b && asks (walkOf s (m ++ x)) (head (walkOf s m)) && leb (s .waiting) 13 && valueFits s && begins (waitingOf s)) ≡ (b && asks (walkOf s m) (head (walkOf s m)) && leb (s .waiting) 13 && valueFits s && begins (waitingOf s))
+      go false q = refl
+      go true q = rw (asks-tailed (walkOf s m) x (fits-inv s m seven q .0))
+  fit-as-carried Complete h = rw (walk-fits-alike s (m ++ x) m (take-append-le (size (s .dim) (s .darts)) m x h))
+  fit-as-carried Closed h = refl
+  fit-as-carried (Refused nr p) h = refl
+
+  pub fit-carried : reach s ys ≤ length m → fit s (m ++ x) ≡ fit s m
+  unfolding fit reach
+  fit-carried h = fit-as-carried (s .state) h
+
+  page-as-carried : (st : State) → fitAs st s m ≡ true → reachAs st s ys ≤ length m → pageAs st s ys (m ++ x) ≡ leftTailed x (pageAs st s ys m)
+  unfolding reachAs pageAs goOn afterEnd readingTailed walkOf tailed
+  page-as-carried Header e h = rw (reading-carried (waitingOf s ++ ys) m x h) (leaves-carried (readingOf (waitingOf s ++ ys) m) m x)
+  page-as-carried Running e h =
+      let v = fits-inv s m seven (running-part s m seven e 0) .0 in
+      rw (settle-carried (walkOf s m) x (waitingOf s ++ ys) v) (leaves-carried (settle (runAll (walkOf s m) (waitingOf s ++ ys))) m x)
+  page-as-carried Complete e h = go ys
+    where
+      go : (zs : List Bool) → leaves (afterEnd (walkOf s (m ++ x)) zs) (m ++ x) ≡ leftTailed x (leaves (afterEnd (walkOf s m) zs) m)
+      go [] = leaves-carried (Reading.complete (walkOf s m)) m x
+      go (z ∷ zs) = rw (spoiled-tailed (walkOf s m) x h 18) (leaves-carried (spoiled 18 (walkOf s m)) m x)
+  page-as-carried Closed e h = unfold unchanged leftTailed in refl
+  page-as-carried (Refused nr p) e h = unfold unchanged leftTailed in refl
+
+  close-as-carried : (st : State) → reachAs st s ys ≤ length m → closeAs st s (m ++ x) ≡ leftTailed x (closeAs st s m)
+  unfolding reachAs closeAs closing readingTailed walkOf tailed
+  close-as-carried Header h = leaves-carried (Reading.refused 11 0 m) m x
+  close-as-carried Running h = rw (spoiled-tailed (walkOf s m) x h 11) (leaves-carried (spoiled 11 (walkOf s m)) m x)
+  close-as-carried Complete h = leaves-carried (Reading.closed (walkOf s m)) m x
+  close-as-carried Closed h = unfold unchanged leftTailed in refl
+  close-as-carried (Refused nr p) h = unfold unchanged leftTailed in refl
+
+  -- a fit session on longer tables does what it does on the entries alone; an unfit one leaves them
+  if-fit-carried : reach s ys ≤ length m → (l l' : Left) → (fit s m ≡ true → l' ≡ leftTailed x l) → ifFit (fit s (m ++ x)) s (m ++ x) l' ≡ leftTailed x (ifFit (fit s m) s m l)
+  if-fit-carried h l l' f = rw (fit-carried h) (go (fit s m) refl)
+    where
+      go : (b : Bool) → fit s m ≡ b → ifFit b s (m ++ x) l' ≡ leftTailed x (ifFit b s m l)
+      go true e = unfold ifFit in f e
+      go false e = unfold ifFit unchanged leftTailed in refl
+
+pub page-carried : (s : Session) (bytes m x : List ℕ) → length (s .positions) ≡ 7 → reach s (unpack bytes) ≤ length m → page s bytes (m ++ x) ≡ leftTailed x (page s bytes m)
+unfolding page fit reach
+page-carried s bytes m x seven h = if-fit-carried s seven ys m x h (pageAs (s .state) s ys m) (pageAs (s .state) s ys (m ++ x)) (λ e. page-as-carried s seven ys m x (s .state) e h)
+  where
+    ys : List Bool
+    ys = unpack bytes
+
+pub close-carried : (s : Session) (m x : List ℕ) → length (s .positions) ≡ 7 → reach s [] ≤ length m → close s (m ++ x) ≡ leftTailed x (close s m)
+unfolding close reach
+close-carried s m x seven h = if-fit-carried s seven [] m x h (closeAs (s .state) s m) (closeAs (s .state) s (m ++ x)) (λ e. close-as-carried s seven [] m x (s .state) h)
+
+-- what a call leaves on tables t and on tables u that have the same first k entries: record and answer are the same, the first k entries too, and what is past them in t is as it was
+pub record SameLeft (k : ℕ) (t : List ℕ) (l l' : Left) : Type 0 where
+  pub session : l .session ≡ l' .session
+  pub answer : l .answer ≡ l' .answer
+  pub entries : Alike k (l .tables) (l' .tables)
+  pub past : drop k (l .tables) ≡ drop k t
+
+-- a call that carries along what is past k entries
+module _ (k : ℕ) (call : List ℕ → Left) (carried : (m x : List ℕ) → k ≤ length m → call (m ++ x) ≡ leftTailed x (call m)) (past : (t : List ℕ) → drop k (call t .tables) ≡ drop k t) where
+  -- it is the call on the entries alone
+  alone : (m t : List ℕ) → k ≤ length m → take k t ≡ m → call t ≡ leftTailed (drop k t) (call m)
+  alone m t h e = ap call (sym (take-append-drop k t)) ∙ (ap (λ (l : List ℕ). call (l ++ drop k t)) e ∙ carried m (drop k t) h)
+
+  front : (m t : List ℕ) → k ≤ length m → take k t ≡ m → take k (call t .tables) ≡ call m .tables
+  unfolding leftTailed
+  front m t h e = append-cancel-right (take k (call t .tables)) (call m .tables) (drop k t)
+      (ap (λ (l : List ℕ). take k (call t .tables) ++ l) (sym (past t)) ∙ (take-append-drop k (call t .tables) ∙ ap (λ (l : Left). l .tables) (alone m t h e)))
+
+  same-left : (t u : List ℕ) → Alike k t u → SameLeft k t (call t) (call u)
+  unfolding leftTailed
+  same-left t u A = go (alike-cases k t u A)
+    where
+      go : (t ≡ u) ⊎ ((k ≤ length t) × (k ≤ length u)) → SameLeft k t (call t) (call u)
+      go (inl e) = rw e (record { session = refl; answer = refl; entries = refl; past = past u })
+      go (inr (h, h')) =
+          let m = take k u in
+          let l : k ≤ length m = omega (arith, length-take-le k u h') in
+          record {
+            session = ap (λ (l : Left). l .session) (alone m t l A) ∙ sym (ap (λ (l : Left). l .session) (alone m u l refl));
+            answer = ap (λ (l : Left). l .answer) (alone m t l A) ∙ sym (ap (λ (l : Left). l .answer) (alone m u l refl));
+            entries = front m t l A ∙ sym (front m u l refl);
+            past = past t;
+          }
+
+-- fitness
+pub fit-alike : (s : Session) (ys : List Bool) (t u : List ℕ) → length (s .positions) ≡ 7 → Alike (reach s ys) t u → fit s t ≡ fit s u
+fit-alike s ys t u seven A = go (alike-cases (reach s ys) t u A)
+  where
+    k : ℕ
+    k = reach s ys
+
+    alone' : (m t : List ℕ) → k ≤ length m → take k t ≡ m → fit s t ≡ fit s m
+    alone' m t h e = ap (fit s) (sym (take-append-drop k t)) ∙ (ap (λ (l : List ℕ). fit s (l ++ drop k t)) e ∙ fit-carried s seven ys m (drop k t) h)
+
+    go : (t ≡ u) ⊎ ((k ≤ length t) × (k ≤ length u)) → fit s t ≡ fit s u
+    go (inl e) = ap (fit s) e
+    go (inr (h, h')) = let l : k ≤ length (take k u) = omega (arith, length-take-le k u h') in alone' (take k u) t l A ∙ sym (alone' (take k u) u l refl)
+
+-- a page
+pub page-alike : (s : Session) (bytes t u : List ℕ) → length (s .positions) ≡ 7 → Alike (reach s (unpack bytes)) t u → SameLeft (reach s (unpack bytes)) t (page s bytes t) (page s bytes u)
+page-alike s bytes t u seven A = same-left (reach s (unpack bytes)) (page s bytes) (λ m x h. page-carried s bytes m x seven h) (λ l. page-past s bytes l seven) t u A
+
+-- closing
+pub close-alike : (s : Session) (t u : List ℕ) → length (s .positions) ≡ 7 → Alike (reach s []) t u → SameLeft (reach s []) t (close s t) (close s u)
+close-alike s t u seven A = same-left (reach s []) (close s) (λ m x h. close-carried s m x seven h) (λ l. close-past s l seven) t u A
+
+-- a whole read
+pub read-alike : (bytes t u : List ℕ) → Alike (headerSize (unpack bytes)) t u
+    → (readAnswer bytes t ≡ readAnswer bytes u) × Alike (headerSize (unpack bytes)) (readTables bytes t) (readTables bytes u) × (drop (headerSize (unpack bytes)) (readTables bytes t) ≡ drop (headerSize (unpack bytes)) t)
+unfolding readAnswer readTables leaves
+read-alike bytes t u A =
+    let S = same-left (headerSize (unpack bytes)) (λ l. leaves (readWhole bytes l) l) (read-carried bytes) (read-past bytes) t u A in
+    (S .answer, S .entries, S .past)
