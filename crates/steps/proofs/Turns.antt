@@ -44,7 +44,8 @@ pub place-room : (N n : ℕ) (t : List ℕ) (j b : ℕ) → Limits N n t → j �
 place-room N n t j b l hj hb p e = omega (arith, place-below N n j b hj hb, l .room)
 
 -- the walk of a stand and tables
-pub stands : (N n : ℕ) (s : Stand) (t : List ℕ) (w : Walk) → Shape w → w .dim ≡ N → w .darts ≡ n → w .count ≡ s .count → w .positions ≡ s .positions → w .links ≡ t → walkAt N n s t ≡ w
+pub stands : (N n : ℕ) (s : Stand) (t : List ℕ) (w : Walk) → Shape w → w .dim ≡ N → w .darts ≡ n → w .count ≡ s .count → w .positions ≡ s .positions
+    → w .links ≡ t → walkAt N n s t ≡ w
 unfolding walkAt
 stands N n s t w h ed en ec ep et = λ i. record { dim = sym ed i; darts = sym en i; queues = q i; links = sym et i; count = sym ec i; positions = sym ep i }
   where
@@ -56,7 +57,8 @@ pub walk-session : (s : Session) (t : List ℕ) → walkOf s t ≡ walkAt (s .di
 unfolding walkOf walkAt
 walk-session s t = refl
 
-pub walk-start : (N n : ℕ) (t : List ℕ) → 1 ≤ n → n ≤ 4096 → N ≤ 6 → walkAt N n (record { count = 1; positions = replicate 7 0 }) (blank (size N n) t) ≡ start N n t
+pub walk-start : (N n : ℕ) (t : List ℕ) → 1 ≤ n → n ≤ 4096 → N ≤ 6
+    → walkAt N n (record { count = 1; positions = replicate 7 0 }) (blank (size N n) t) ≡ start N n t
 unfolding start
 walk-start N n t h1 h2 h3 = stands N n (record { count = 1; positions = replicate 7 0 }) (blank (size N n) t) (start N n t) (start-inv N n t h1 h2 h3 .shape) refl refl refl refl refl
 
@@ -65,7 +67,8 @@ pub ready-start : (N n : ℕ) (c : Cursor) (t page : List ℕ) → (1 ≤ N) × 
 ready-start N n c t page hN hn f z = record { inv = rw (walk-start N n t (hn .0) (hn .1) (hN .1)) (start-inv N n t (hn .0) (hn .1) (hN .1)); dims = hN .0; fits = f; begun = inl z }
 
 -- a move's walk is that of the stand and tables after it
-lands : (N n : ℕ) (s s' : Stand) (t t' : List ℕ) (out : List Symbol) (w' : Walk) → Inv (walkAt N n s t) → Move (walkAt N n s t) out w' → w' .count ≡ s' .count → w' .positions ≡ s' .positions → w' .links ≡ t' → walkAt N n s' t' ≡ w'
+lands : (N n : ℕ) (s s' : Stand) (t t' : List ℕ) (out : List Symbol) (w' : Walk) → Inv (walkAt N n s t) → Move (walkAt N n s t) out w'
+    → w' .count ≡ s' .count → w' .positions ≡ s' .positions → w' .links ≡ t' → walkAt N n s' t' ≡ w'
 unfolding walkAt
 lands N n s s' t t' out w' v m ec ep et = let x = moved (walkAt N n s t) w' out v m in stands N n s' t' w' (x .inv .shape) (x .grows .dim) (x .grows .darts) ec ep et
 
@@ -81,11 +84,13 @@ module _ (N n k : ℕ) (ps t : List ℕ) (v : Inv (walkAt N n (standOf k ps) t))
   unfolding pass walkAt
   walk-passed m ps' e = lands N n (standOf k ps) (standOf k ps') t t [] (pass here j b) v m refl (left ∙ sym e) refl
 
-  walk-tied : (out : List Symbol) (e : ℕ) → Move here out (tie here j b e) → (ps' t' : List ℕ) → Tied N n ps t j b e ps' t' → walkAt N n (standOf k ps') t' ≡ tie here j b e
+  walk-tied : (out : List Symbol) (e : ℕ) → Move here out (tie here j b e) → (ps' t' : List ℕ) → Tied N n ps t j b e ps' t'
+      → walkAt N n (standOf k ps') t' ≡ tie here j b e
   unfolding tie pass join walkAt
   walk-tied out e m ps' t' x = lands N n (standOf k ps) (standOf k ps') t t' out (tie here j b e) v m refl (left ∙ sym (x .positions)) (sym (x .tables))
 
-  walk-new : (out : List Symbol) → Move here out (apply here j b Symbol.new) → (ps' t' : List ℕ) → Tied N n ps t j b k ps' t' → walkAt N n (standOf (k + 1) ps') t' ≡ apply here j b Symbol.new
+  walk-new : (out : List Symbol) → Move here out (apply here j b Symbol.new) → (ps' t' : List ℕ) → Tied N n ps t j b k ps' t'
+      → walkAt N n (standOf (k + 1) ps') t' ≡ apply here j b Symbol.new
   unfolding apply tie pass join fresh walkAt
   walk-new out m ps' t' x =
       lands N n (standOf k ps) (standOf (k + 1) ps') t t' out (apply here j b Symbol.new) v m (omega arith) (left ∙ sym (x .positions)) (sym (x .tables))
@@ -100,28 +105,33 @@ signalNo (Refused nr) = 3
 pub apart : {A : Type 0} (x y : Signal) → signalNo x ≢ signalNo y → x ≡ y → A
 apart x y h e = absurd (h (ap signalNo e))
 
+-- what a step leaves: where the walk stands, the bits and the signal
+abbrev turned : Stand → Cursor → Signal → Turned
+turned s c g = record { stand = s; cursor = c; signal = g }
+
 -- a step with a symbol, one way through the code at a time
-module _ (N n k : ℕ) (ps : List ℕ) (c : Cursor) (t page : List ℕ) (j b : ℕ) (v : Served N n k ps t j b) (asked : partner (walkAt N n (standOf k ps) t) j b ≡ Partner.asked) (f : CursorFits c page)
-    (got : Taken) (past : PastSymbol got c page) where
+module _ {N n k : ℕ} {ps : List ℕ} {c : Cursor} {t page : List ℕ} {j b : ℕ} (v : Served N n k ps t j b)
+    (asked : partner (walkAt N n (standOf k ps) t) j b ≡ Partner.asked) (f : CursorFits c page) (got : Taken) (past : PastSymbol got c page) where
   abbrev w : Walk
   w = walkAt N n (standOf k ps) t
 
   on : (x : Symbol) (d : Cursor) → told got page ≡ stream.Taken.symbol x (atHand d page) → PastCode c d page → permitted w j b x ≡ true
       → (s' : Stand) (t' : List ℕ) → walkAt N n s' t' ≡ apply w j b x
-      → Taking N n (standOf k ps) c t page j b got (record { stand = s'; cursor = d; signal = More }) t'
+      → Taking N n (standOf k ps) c t page j b got (turned s' d More) t'
   unfolding signalStep stepTaken allow
   on x d e p h s' t' q = record { tells = rw (e, h, q); fits = p .fits; used = λ _. p .used; onward = λ z. apart More Ended (omega arith) z }
 
   off : (x : Symbol) (rest : List Bool) → told got page ≡ stream.Taken.symbol x rest → permitted w j b x ≡ false
-      → Taking N n (standOf k ps) c t page j b got (record { stand = standOf k ps; cursor = c; signal = Refused (fault x) }) t
+      → Taking N n (standOf k ps) c t page j b got (turned (standOf k ps) c (Refused (fault x))) t
   unfolding signalStep stepTaken allow
   off x rest e h = record { tells = rw (e, h); fits = f; used = λ z. apart (Refused (fault x)) More (omega arith) z; onward = λ z. apart (Refused (fault x)) Ended (omega arith) z }
 
-  pub taking-short : got ≡ taken.Short → Taking N n (standOf k ps) c t page j b got (record { stand = standOf k ps; cursor = c; signal = Waits }) t
+  pub taking-short : got ≡ taken.Short → Taking N n (standOf k ps) c t page j b got (turned (standOf k ps) c Waits) t
   unfolding signalStep stepTaken told
   taking-short e = record { tells = rw e; fits = f; used = λ z. apart Waits More (omega arith) z; onward = λ z. apart Waits Ended (omega arith) z }
 
-  pub taking-border : (d : Cursor) → got ≡ taken.Border d → (ps' t' : List ℕ) → Tied N n ps t j b b ps' t' → Taking N n (standOf k ps) c t page j b got (record { stand = standOf k ps'; cursor = d; signal = More }) t'
+  pub taking-border : (d : Cursor) → got ≡ taken.Border d → (ps' t' : List ℕ) → Tied N n ps t j b b ps' t'
+      → Taking N n (standOf k ps) c t page j b got (turned (standOf k ps') d More) t'
   unfolding told PastSymbol permitted apply
   taking-border d e ps' t' x =
       on Symbol.border d (rw e) (rw e at past) refl (standOf k ps') t'
@@ -132,25 +142,27 @@ module _ (N n k : ℕ) (ps : List ℕ) (c : Cursor) (t page : List ℕ) (j b : �
     unfolding permitted unknown linkOf walkAt
     named = sym ey
 
-    pub taking-index : y ≡ true → (ps' t' : List ℕ) → Tied N n ps t j b (e .0) ps' t' → Taking N n (standOf k ps) c t page j b got (record { stand = standOf k ps'; cursor = d; signal = More }) t'
+    pub taking-index : y ≡ true → (ps' t' : List ℕ) → Tied N n ps t j b (e .0) ps' t'
+        → Taking N n (standOf k ps) c t page j b got (turned (standOf k ps') d More) t'
     unfolding told PastSymbol apply
     taking-index q ps' t' x =
         on (Symbol.index (e .0)) d (rw ek) (rw ek at past) (named ∙ q) (standOf k ps') t'
         (walk-tied N n k ps t (v .inv) j b (v .first) (Symbol.index (e .0) ∷ []) (e .0) (Move.reads j b (Symbol.index (e .0)) (v .heads) asked (named ∙ q)) ps' t' x)
 
-    pub taking-12 : y ≡ false → Taking N n (standOf k ps) c t page j b got (record { stand = standOf k ps; cursor = c; signal = Refused 12 }) t
+    pub taking-12 : y ≡ false → Taking N n (standOf k ps) c t page j b got (turned (standOf k ps) c (Refused 12)) t
     unfolding told fault
     taking-12 q = off (Symbol.index (e .0)) (atHand d page) (rw ek) (named ∙ q)
 
   module _ (d : Cursor) (ek : got ≡ taken.New d) (y : Bool) (ey : y ≡ ltb k n) where
-    pub taking-new : y ≡ true → (ps' t' : List ℕ) → Tied N n ps t j b k ps' t' → Taking N n (standOf k ps) c t page j b got (record { stand = standOf (k + 1) ps'; cursor = d; signal = More }) t'
+    pub taking-new : y ≡ true → (ps' t' : List ℕ) → Tied N n ps t j b k ps' t'
+        → Taking N n (standOf k ps) c t page j b got (turned (standOf (k + 1) ps') d More) t'
     unfolding told PastSymbol permitted walkAt
     taking-new q ps' t' x =
         let p : permitted w j b Symbol.new ≡ true = sym ey ∙ q in
         on Symbol.new d (rw ek) (rw ek at past) p (standOf (k + 1) ps') t'
         (walk-new N n k ps t (v .inv) j b (v .first) (Symbol.new ∷ []) (Move.reads j b Symbol.new (v .heads) asked p) ps' t' x)
 
-    pub taking-13 : y ≡ false → Taking N n (standOf k ps) c t page j b got (record { stand = standOf k ps; cursor = c; signal = Refused 13 }) t
+    pub taking-13 : y ≡ false → Taking N n (standOf k ps) c t page j b got (turned (standOf k ps) c (Refused 13)) t
     unfolding told fault permitted walkAt
     taking-13 q = off Symbol.new (atHand d page) (rw ek) (sym ey ∙ q)
 
@@ -193,14 +205,15 @@ module _ (N n : ℕ) (s : Stand) (c : Cursor) (t page : List ℕ) (y : Ready N n
           moved (walkAt N n s t) (walkAt N n (r .stand) t') (x .out) (y .inv) (x .move) .inv
 
 -- one turn, over the count and the positions: none where all queues are empty, or at the head of the lowest queue that isn't
-module _ (N n k : ℕ) (ps : List ℕ) (c : Cursor) (t page : List ℕ) (y : Ready N n (standOf k ps) c t page) where
+module _ {N n k : ℕ} {ps : List ℕ} {c : Cursor} {t page : List ℕ} (y : Ready N n (standOf k ps) c t page) where
   pub ready-seven : length ps ≡ 7
   unfolding walkAt
   ready-seven = y .inv .shape .seven
 
-  pub turn-ended : (j : ℕ) → Emptied k ps j → N < j → Turns N n (standOf k ps) c t page (record { stand = standOf k ps; cursor = c; signal = Ended }) t
+  pub turn-ended : {j : ℕ} → Emptied k ps j → N < j → Turns N n (standOf k ps) c t page (turned (standOf k ps) c Ended) t
   unfolding signalStep step stepAt
-  turn-ended j low h = turns N n (standOf k ps) c t page y (record { stand = standOf k ps; cursor = c; signal = Ended }) t (rw o) (y .fits) (λ z. apart Ended More (omega arith) z) (λ _. go (y .begun))
+  turn-ended {j} low h =
+      turns N n (standOf k ps) c t page y (turned (standOf k ps) c Ended) t (rw o) (y .fits) (λ z. apart Ended More (omega arith) z) (λ _. go (y .begun))
     where
       o : head (walkAt N n (standOf k ps) t) ≡ Head.none
       o = unfold walkAt in head-past (walkAt N n (standOf k ps) t) (y .inv .shape) j low h
@@ -209,7 +222,7 @@ module _ (N n k : ℕ) (ps : List ℕ) (c : Cursor) (t page : List ℕ) (y : Rea
       go (inl q) = q
       go (inr a) = let e = o in let q = a .next in let z : _≡_ {A = ℕ} 0 1 = cc in absurd (omega arith)
 
-  module _ (j : ℕ) (low : Lowest k ps j) (hj : j ≤ N) where
+  module _ {j : ℕ} (low : Lowest k ps j) (hj : j ≤ N) where
     -- the head of Lj
     abbrev b : ℕ
     b = getD ps j 0
@@ -254,12 +267,12 @@ module _ (N n k : ℕ) (ps : List ℕ) (c : Cursor) (t page : List ℕ) (y : Rea
               let eb : a .dart ≡ b = at-dart (a .next) h in
               absurd (ne (sym seen ∙ (ap (λ (i : ℕ). partner (walkAt N n (standOf k ps) t) i b) (sym ej) ∙ (ap (partner (walkAt N n (standOf k ps) t) (a .rank)) (sym eb) ∙ a .needs))))
 
-      pub turn-known : p ≡ Known → (ps' : List ℕ) → ps' ≡ set ps j (getD ps j 0 + 1) → Turns N n (standOf k ps) c t page (record { stand = standOf k ps'; cursor = c; signal = More }) t
+      pub turn-known : p ≡ Known → (ps' : List ℕ) → ps' ≡ set ps j (getD ps j 0 + 1) → Turns N n (standOf k ps) c t page (turned (standOf k ps') c More) t
       unfolding signalStep stepWith
       turn-known e ps' z =
           let x : toldPartner p ≡ Partner.known = ap toldPartner e in
           let g = walk-passed N n k ps t (y .inv) j b refl (Move.passes j b heads (seen ∙ x)) ps' z in
-          turns N n (standOf k ps) c t page y (record { stand = standOf k ps'; cursor = c; signal = More }) t (rw (stepping (atHand c page) Partner.known x, g)) (y .fits)
+          turns N n (standOf k ps) c t page y (turned (standOf k ps') c More) t (rw (stepping (atHand c page) Partner.known x, g)) (y .fits)
           (λ _. still (λ a. known-asked (sym x ∙ a))) (λ a. apart More Ended (omega arith) a)
 
       module _ (e : WalkNo) (ee : p ≡ Deduced e) where
@@ -275,19 +288,21 @@ module _ (N n k : ℕ) (ps : List ℕ) (c : Cursor) (t page : List ℕ) (y : Rea
             omega (arith, d .value, l, y .inv .shape .within)
 
         module _ (x : ℕ) (ex : x ≡ link N n t j (e .0)) where
-          pub turn-tied : x ≡ mark → (ps' t' : List ℕ) → Tied N n ps t j b (e .0) ps' t' → Turns N n (standOf k ps) c t page (record { stand = standOf k ps'; cursor = c; signal = More }) t'
+          pub turn-tied : x ≡ mark → (ps' t' : List ℕ) → Tied N n ps t j b (e .0) ps' t' → Turns N n (standOf k ps) c t page (turned (standOf k ps') c More) t'
           unfolding signalStep stepWith allow
           turn-tied q ps' t' z =
               let u : unknown (walkAt N n (standOf k ps) t) j (e .0) ≡ true = unfold unknown linkOf walkAt in eq-eqb (link N n t j (e .0)) mark (sym ex ∙ q) in
               let g = walk-tied N n k ps t (y .inv) j b refl [] (e .0) (Move.deduces j b (e .0) heads (seen ∙ deduces) u) ps' t' z in
-              turns N n (standOf k ps) c t page y (record { stand = standOf k ps'; cursor = c; signal = More }) t' (rw (stepping (atHand c page) (Partner.deduced (e .0)) deduces, u, g)) (y .fits)
+              turns N n (standOf k ps) c t page y (turned (standOf k ps') c More) t'
+              (rw (stepping (atHand c page) (Partner.deduced (e .0)) deduces, u, g)) (y .fits)
               (λ _. still (λ a. deduced-asked (sym deduces ∙ a))) (λ a. apart More Ended (omega arith) a)
 
-          pub turn-14 : x ≢ mark → Turns N n (standOf k ps) c t page (record { stand = standOf k ps; cursor = c; signal = Refused 14 }) t
+          pub turn-14 : x ≢ mark → Turns N n (standOf k ps) c t page (turned (standOf k ps) c (Refused 14)) t
           unfolding signalStep stepWith allow
           turn-14 q =
               let u : unknown (walkAt N n (standOf k ps) t) j (e .0) ≡ false = unfold unknown linkOf walkAt in ne-eqb (link N n t j (e .0)) mark (λ z. q (ex ∙ z)) in
-              turns N n (standOf k ps) c t page y (record { stand = standOf k ps; cursor = c; signal = Refused 14 }) t (rw (stepping (atHand c page) (Partner.deduced (e .0)) deduces, u)) (y .fits)
+              turns N n (standOf k ps) c t page y (turned (standOf k ps) c (Refused 14)) t
+              (rw (stepping (atHand c page) (Partner.deduced (e .0)) deduces, u)) (y .fits)
               (λ a. apart (Refused 14) More (omega arith) a) (λ a. apart (Refused 14) Ended (omega arith) a)
 
       module _ (ea : p ≡ Asked) where
@@ -295,11 +310,13 @@ module _ (N n k : ℕ) (ps : List ℕ) (c : Cursor) (t page : List ℕ) (y : Rea
         asks = seen ∙ ap toldPartner ea
 
         pub turn-asked : (got : Taken) → SymbolTaken got c page → (r : Turned) (t' : List ℕ)
-            → ((page' : List ℕ) → CursorFits c page' → PastSymbol got c page' → Taking N n (standOf k ps) c t page' j b got r t') → Turns N n (standOf k ps) c t page r t'
+            → ((page' : List ℕ) → CursorFits c page' → PastSymbol got c page' → Taking N n (standOf k ps) c t page' j b got r t')
+            → Turns N n (standOf k ps) c t page r t'
         unfolding stepWith
         turn-asked got st r t' f =
             let x = f page (y .fits) (st .past) in
-            turns N n (standOf k ps) c t page y r t' (x .tells ∙ rw (stepping (atHand c page) Partner.asked (ap toldPartner ea), st .tells)) (x .fits) (λ q. x .used q (begun (y .begun))) (λ q. absurd (x .onward q))
+            turns N n (standOf k ps) c t page y r t'
+            (x .tells ∙ rw (stepping (atHand c page) Partner.asked (ap toldPartner ea), st .tells)) (x .fits) (λ q. x .used q (begun (y .begun))) (λ q. absurd (x .onward q))
           where
             begun : (c .waiting ≡ 0) ⊎ Asks (walkAt N n (standOf k ps) t) (bitsOf (c .waiting) (c .value)) → begins (bitsOf (c .waiting) (c .value)) ≡ true
             begun (inl q) = unfold bitsOf begins in rw q

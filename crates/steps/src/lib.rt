@@ -43,7 +43,7 @@ pub struct Turned {
     pub signal: Signal,
 }
 
-// What a step comes to: a rank below which all queues are empty, the darts numbered, the bits and the signal. The positions are lent.
+// What a step comes to, beside the positions, which are lent: a rank below which all queues are empty, and the count.
 pub struct Outcome {
     pub rank: usize,
     pub count: u16,
@@ -239,8 +239,8 @@ pub fn turn(
     }
 }
 
-// Every step that needs no bit beyond those at hand: each writes one place of the positions. With the queues below a rank empty, its own holds
-// the walk numbers from its position up to the count.
+// Every step that needs no bit beyond those at hand; each writes one place of the positions. With the queues below Lj
+// empty, Lj holds the walk numbers from its position up to the count.
 pub fn walk_on(
     tables: &mut [u16],
     positions: &mut [u16],

@@ -16,7 +16,7 @@ slice-read-t14 : tie.Need-slice-read-t14
 slice-read-t14 c =
     let p = c .before .before .before .before .pre in
     let l = ready-limits _ _ _ _ _ _ (p .0) in
-    omega (arith, ready-seven _ _ _ _ _ _ _ (p .0))
+    omega (arith, ready-seven (p .0))
 
 partner-requires : tie.Need-partner-requires
 partner-requires c κs =
@@ -29,7 +29,7 @@ enum-told c = search needs
 passed-requires : tie.Need-passed-requires
 passed-requires c κs =
     let p = c .before .before .before .before .before .before .before .before .before .pre in
-    let v = served _ _ _ _ _ _ _ (p .0) _ (p .2) (p .1) in
+    let v = served (p .0) (p .2) (p .1) in
     let l = v .limits in
     (v .seven, omega arith, omega arith)
 
@@ -46,9 +46,11 @@ follow-requires c κs =
 
 tied-requires : tie.Need-tied-requires
 tied-requires c κs =
-    let p = c .before .before .before .before .before .before .before .before .before .before .before .before .before .before .before .pre in
-    let v = served _ _ _ _ _ _ _ (p .0) _ (p .2) (p .1) in
-    (v .limits, v .seven, v .ranked, omega arith, deduced-small _ _ _ _ _ _ _ (p .0) _ (p .2) (p .1) _ (c .before .before .before .before .before .before .before .before .before .partner .ensures) _ (c .before .before .before .before .before .before .before .e .given .1))
+    let k = c .before .before .before .before .before .before .before in
+    let p = k .before .before .before .before .before .before .before .before .pre in
+    let v = served (p .0) (p .2) (p .1) in
+    let l = deduced-small (p .0) (p .2) (p .1) _ (k .before .before .partner .ensures) _ (k .e .given .1) in
+    (v .limits, v .seven, v .ranked, omega arith, l)
 
 comes-to-requires-2 : tie.Need-comes-to-requires-2
 comes-to-requires-2 c κs = search needs
@@ -64,8 +66,9 @@ take-symbol-requires c κs = search needs
 
 by-symbol-requires : tie.Need-by-symbol-requires
 by-symbol-requires c κs =
-    let p = c .before .before .before .before .before .before .before .before .before .before .before .pre in
-    (served _ _ _ _ _ _ _ (p .0) _ (p .2) (p .1), asks _ _ _ _ _ _ _ (p .0) _ (p .2) (p .1) _ (c .before .before .before .before .before .partner .ensures) (c .before .before .before .enum-told2 .given .1))
+    let k = c .before .before .before in
+    let p = k .before .before .before .before .before .before .before .before .pre in
+    (served (p .0) (p .2) (p .1), asks (p .0) (p .2) (p .1) _ (k .before .before .partner .ensures) (k .enum-told2 .given .1))
 
 same-length : tie.Need-same-length
 same-length c = search needs
@@ -75,10 +78,11 @@ same-length-2 c = search needs
 
 returns : tie.Need-returns
 returns c =
-    let p = c .before .before .before .before .before .before .before .before .before .before .before .before .before .pre in
+    let k = c .before .before .before .before .before in
+    let p = k .before .before .before .before .before .before .before .before .pre in
     let x = c .before .before .before .passed .ensures in
     rw (c .comes-to .ensures)
-    (turn-known _ _ _ _ _ _ _ (p .0) _ (p .2) (p .1) _ (c .before .before .before .before .before .before .before .partner .ensures) (c .before .before .before .before .before .enum-told .given .1) _ x, rw x (emptied-passed _ _ _ _ (p .2 .emptied)))
+    (turn-known (p .0) (p .2) (p .1) _ (k .before .before .partner .ensures) (k .enum-told .given .1) _ x, rw x (emptied-passed _ _ _ _ (p .2 .emptied)))
 
 same-length-3 : tie.Need-same-length-3
 same-length-3 c = search needs
@@ -88,21 +92,26 @@ same-length-4 c = search needs
 
 returns-2 : tie.Need-returns-2
 returns-2 c =
-    let p = c .before .before .before .before .before .before .before .before .before .before .before .before .before .before .before .before .before .before .before .before .before .pre in
-    let y = c .before .before .before .before .before .before .before .before .before .before .before .before .before .before .before .partner .ensures in
-    let x = c .before .before .before .before .before .tied .ensures in
-    rw (c .comes-to2 .ensures)
-    (turn-tied _ _ _ _ _ _ _ (p .0) _ (p .2) (p .1) _ y _ (c .before .before .before .before .before .before .before .before .before .before .before .before .before .e .given .1) _ (c .before .before .before .before .before .before .before .before .before .before .follow .ensures) (c .before .before .before .before .before .before .before .before .if1 .taken) _ _ x, rw (x .positions) (emptied-passed _ _ _ _ (p .2 .emptied)))
+    let m = c .before .before .before .before .before in
+    let k = m .before .before .before .before .before .before .before .before in
+    let p = k .before .before .before .before .before .before .before .before .pre in
+    let y = k .before .before .partner .ensures in
+    let x = m .tied .ensures in
+    rw (c .comes-to2 .ensures) (
+      turn-tied (p .0) (p .2) (p .1) _ y _ (k .e .given .1) _ (m .before .before .before .before .before .follow .ensures) (m .before .before .before .if1 .taken) _ _ x,
+      rw (x .positions) (emptied-passed _ _ _ _ (p .2 .emptied)),
+    )
 
 same-length-5 : tie.Need-same-length-5
 same-length-5 c = search needs
 
 returns-3 : tie.Need-returns-3
 returns-3 c =
-    let p = c .before .before .before .before .before .before .before .before .before .before .before .before .before .before .pre in
-    let y = c .before .before .before .before .before .before .before .before .partner .ensures in
+    let k = c .before .before .before .before .before .before in
+    let p = k .before .before .before .before .before .before .before .before .pre in
+    let y = k .before .before .partner .ensures in
     rw (c .comes-to3 .ensures)
-    (turn-14 _ _ _ _ _ _ _ (p .0) _ (p .2) (p .1) _ y _ (c .before .before .before .before .before .before .e .given .1) _ (c .before .before .before .follow .ensures) (c .before .if1 .left), p .2 .emptied)
+    (turn-14 (p .0) (p .2) (p .1) _ y _ (k .e .given .1) _ (c .before .before .before .follow .ensures) (c .before .if1 .left), p .2 .emptied)
 
 same-length-6 : tie.Need-same-length-6
 same-length-6 c = search needs
@@ -112,10 +121,12 @@ same-length-7 c = search needs
 
 returns-4 : tie.Need-returns-4
 returns-4 c =
-    let p = c .before .before .before .before .before .before .before .before .before .before .before .before .before .before .before .before .pre in
-    let y = c .before .before .before .before .before .before .before .before .before .before .partner .ensures in
-    let x = c .before .before .before .before .by-symbol .ensures in
-    (turn-asked _ _ _ _ _ _ _ (p .0) _ (p .2) (p .1) _ y (c .before .before .before .before .before .before .before .before .enum-told2 .given .1) _ (c .before .before .before .before .before .before .before .take-symbol .ensures) _ _ (x .0), x .1)
+    let m = c .before .before .before .before in
+    let k = m .before .before .before .before in
+    let p = k .before .before .before .before .before .before .before .before .pre in
+    let y = k .before .before .partner .ensures in
+    let x = m .by-symbol .ensures in
+    (turn-asked (p .0) (p .2) (p .1) _ y (k .enum-told2 .given .1) _ (m .before .before .before .take-symbol .ensures) _ _ (x .0), x .1)
 
 pub turn-spec : {M : Type 1} → statement M
 turn-spec =
