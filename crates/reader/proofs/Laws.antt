@@ -278,10 +278,14 @@ unfolding afterEnd
 after-more w [] h = absurd (omega arith)
 after-more w (b ∷ bits) h = refl
 
--- calls on the walk of a record
-pub running-may : (s : Session) (k : Stand) → k ≡ standBy s → (t page : List ℕ) → Ready (s .dim) (s .darts) (standBy s) (cursorOf s) t page → Ready (s .dim) (s .darts) k (cursorOf s) t page
-running-may s k ek t page y = rw ek y
+-- a running session may go on from any byte of a page
+pub running-may : (s : Session) (k : Stand) → k ≡ standBy s → (t page : List ℕ) → Ready (s .dim) (s .darts) (standBy s) (cursorOf s) t page
+    → (at : ℕ) → at ≤ length page → Ready (s .dim) (s .darts) k (record { waiting = s .waiting; value = s .value; at = at; bit = 0 }) t page
+running-may s k ek t page y at h =
+    let f = y .fits in
+    rw ek (record { inv = y .inv; dims = y .dims; fits = record { few = f .few; holds = f .holds; within = h; inByte = f .inByte }; begun = y .begun })
 
+-- calls on the walk of a record
 module _ (r : Paged) (s : Session) (k : Stand) (ek : k ≡ standBy s) (t : List ℕ) where
   abbrev answerBy : Stand → ReadAnswer
   answerBy x = record { number = 0; place = 0; steps = sum (x .positions); dim = s .dim; darts = s .darts }

@@ -1,4 +1,3 @@
 pub mod Partners
-pub mod Ends
 pub mod Turns
 pub mod Runs

@@ -19,8 +19,7 @@ use Rattle.steps.specs.declared.Stand.{Stand}
 use Rattle.steps.specs.declared.Turned.{Turned}
 use Rattle.steps.specs.declared.Signal.{Signal}
 use Rattle.steps.specs.declared.Signal.the-variants.{More, Ended, Waits, Refused}
-use Rattle.steps.specs.Turns.{walkAt, signalStep, signalRun, toldRun, standOf, Ready, Turns, Runs}
-use Rattle.steps.proofs.Ends.{endsOf, stand-made}
+use Rattle.steps.specs.Turns.{walkAt, signalStep, signalRun, toldRun, Ready, Turns, Runs}
 use Rattle.steps.proofs.Turns.{apart}
 
 -- where a run stands that began at s0, c0 and t0
@@ -129,15 +128,3 @@ module _ (N n : ℕ) (s0 : Stand) (c0 : Cursor) (t0 page : List ℕ) (s : Stand)
 
   pub run-refused : (nr : ℕ) → r .signal ≡ Refused nr → Runs N n s0 c0 t0 page r t'
   run-refused nr q = stop (λ z. apart (Refused nr) More (omega arith) (sym q ∙ z))
-
--- the run from a stand is the run over its ends
-module _ (N n : ℕ) (s : Stand) (c : Cursor) (t page : List ℕ) (y : Ready N n s c t page) where
-  made : standOf (endsOf s) ≡ s
-  unfolding walkAt
-  made = stand-made s (y .inv .shape .seven)
-
-  pub ready-ends : Ready N n (standOf (endsOf s)) c t page
-  ready-ends = rw made y
-
-  pub runs-ends : (r : Turned) (t' : List ℕ) → Runs N n (standOf (endsOf s)) c t page r t' → Runs N n s c t page r t'
-  runs-ends r t' x = rw made at x

@@ -4,11 +4,11 @@ use mathlib.Core.Path.{_≡_, refl, ap, sym, _∙_}
 use mathlib.Core.Logic.{_≢_, _⊎_, inl, inr}
 use mathlib.Core.Bool.{Bool, true, false, not, _&&_}
 use mathlib.Core.List.{List, [], _∷_}
+use native.Mathlib.Numerals.{add-one}
 use native.Mathlib.Omega.{arith}
-use lib.ListN.{length, getD, set, replicate, length-set}
-use lib.Seq.{getD-set-other}
+use lib.ListN.{length, getD, set, replicate}
 use lib.Dec.{eqb, ltb}
-use borrow.Author.Tests.{ltb-true, lt-ltb, le-ltb, eq-eqb, ne-eqb}
+use borrow.Author.Tests.{ltb-true, eq-eqb, ne-eqb}
 use Rattle.rules.specs.Map.{mark, size, place, link, blank, Limits}
 use Rattle.rules.specs.Walk.{Walk, start, Head, head, linkOf, unknown, Partner, partner, pass, join, fresh, tie, Symbol, apply}
 use Rattle.rules.specs.Stream.{bitsOf}
@@ -19,7 +19,8 @@ use Rattle.rules.specs.declared.Session.{Session}
 use Rattle.rules.specs.declared.WalkNo.{WalkNo}
 use Rattle.rules.proofs.Lists.{and-left}
 use Rattle.rules.proofs.Places.{place-below}
-use Rattle.rules.proofs.Positions.{Shape, bound-le-count, turn}
+use Rattle.rules.proofs.Positions.{Shape}
+use Rattle.rules.proofs.Lowest.{Emptied, head-lowest, head-past}
 use Rattle.rules.proofs.Walks.{Inv, start-inv, next-of, deduced-below}
 use Rattle.rules.proofs.Moves.{Move, moved, see-deduced, step-move}
 use Rattle.rules.proofs.Readings.{Asks}
@@ -37,14 +38,14 @@ use Rattle.steps.specs.declared.Case.the-variants.{Known, Deduced, Asked
 use Rattle.steps.specs.Partners.{looking, toldPartner}
 use Rattle.steps.specs.Turns.{walkAt, signalStep, toldStep, tablesJoined, mayName, standOf, Lowest, Tied, Ready, Served, Taking, Turns}
 use Rattle.steps.proofs.Partners.{partner-looking}
-use Rattle.steps.proofs.Ends.{standPassed, standCounted, ends-eight, stand-passed, stand-counted, lowest-here, lowest-over}
 
 -- a link's place is within the tables
 pub place-room : (N n : ℕ) (t : List ℕ) (j b : ℕ) → Limits N n t → j ≤ N → b < n → (p : ℕ) → p ≡ place N n j b → p < length t
 place-room N n t j b l hj hb p e = omega (arith, place-below N n j b hj hb, l .room)
 
 -- the walk of a stand and tables
-pub stands : (N n : ℕ) (s : Stand) (t : List ℕ) (w : Walk) → Shape w → w .dim ≡ N → w .darts ≡ n → w .count ≡ s .count → w .positions ≡ s .positions → w .links ≡ t → walkAt N n s t ≡ w
+pub stands : (N n : ℕ) (s : Stand) (t : List ℕ) (w : Walk) → Shape w → w .dim ≡ N → w .darts ≡ n → w .count ≡ s .count → w .positions ≡ s .positions
+    → w .links ≡ t → walkAt N n s t ≡ w
 unfolding walkAt
 stands N n s t w h ed en ec ep et = λ i. record { dim = sym ed i; darts = sym en i; queues = q i; links = sym et i; count = sym ec i; positions = sym ep i }
   where
@@ -56,7 +57,8 @@ pub walk-session : (s : Session) (t : List ℕ) → walkOf s t ≡ walkAt (s .di
 unfolding walkOf walkAt
 walk-session s t = refl
 
-pub walk-start : (N n : ℕ) (t : List ℕ) → 1 ≤ n → n ≤ 4096 → N ≤ 6 → walkAt N n (record { count = 1; positions = replicate 7 0 }) (blank (size N n) t) ≡ start N n t
+pub walk-start : (N n : ℕ) (t : List ℕ) → 1 ≤ n → n ≤ 4096 → N ≤ 6
+    → walkAt N n (record { count = 1; positions = replicate 7 0 }) (blank (size N n) t) ≡ start N n t
 unfolding start
 walk-start N n t h1 h2 h3 = stands N n (record { count = 1; positions = replicate 7 0 }) (blank (size N n) t) (start N n t) (start-inv N n t h1 h2 h3 .shape) refl refl refl refl refl
 
@@ -65,46 +67,33 @@ pub ready-start : (N n : ℕ) (c : Cursor) (t page : List ℕ) → (1 ≤ N) × 
 ready-start N n c t page hN hn f z = record { inv = rw (walk-start N n t (hn .0) (hn .1) (hN .1)) (start-inv N n t (hn .0) (hn .1) (hN .1)); dims = hN .0; fits = f; begun = inl z }
 
 -- a move's walk is that of the stand and tables after it
-lands : (N n : ℕ) (s s' : Stand) (t t' : List ℕ) (out : List Symbol) (w' : Walk) → Inv (walkAt N n s t) → Move (walkAt N n s t) out w' → w' .count ≡ s' .count → w' .positions ≡ s' .positions → w' .links ≡ t' → walkAt N n s' t' ≡ w'
+lands : (N n : ℕ) (s s' : Stand) (t t' : List ℕ) (out : List Symbol) (w' : Walk) → Inv (walkAt N n s t) → Move (walkAt N n s t) out w'
+    → w' .count ≡ s' .count → w' .positions ≡ s' .positions → w' .links ≡ t' → walkAt N n s' t' ≡ w'
 unfolding walkAt
 lands N n s s' t t' out w' v m ec ep et = let x = moved (walkAt N n s t) w' out v m in stands N n s' t' w' (x .inv .shape) (x .grows .dim) (x .grows .darts) ec ep et
 
-set-one : (l : List ℕ) (j : ℕ) → set l j (suc (getD l j 0)) ≡ set l j (getD l j 0 + 1)
-set-one l j = let e : getD l j 0 + 1 ≡ suc (getD l j 0) = omega arith in rw e
+-- the walk after b has left Lj: with aj(b) as it was, with aj(b) = e made known, and with a new dart
+module _ (N n k : ℕ) (ps t : List ℕ) (v : Inv (walkAt N n (standOf k ps) t)) (j b : ℕ) (q : getD ps j 0 ≡ b) where
+  abbrev here : Walk
+  here = walkAt N n (standOf k ps) t
 
-module _ (N n : ℕ) (s : Stand) (t : List ℕ) (v : Inv (walkAt N n s t)) (j b : ℕ) where
-  walk-passed : Move (walkAt N n s t) [] (pass (walkAt N n s t) j b) → walkAt N n (standPassed s j) t ≡ pass (walkAt N n s t) j b
+  left : set ps j (suc (getD ps j 0)) ≡ set ps j (b + 1)
+  left = rw (q, add-one)
+
+  walk-passed : Move here [] (pass here j b) → (ps' : List ℕ) → ps' ≡ set ps j (b + 1) → walkAt N n (standOf k ps') t ≡ pass here j b
   unfolding pass walkAt
-  walk-passed m = lands N n s (standPassed s j) t t [] (pass (walkAt N n s t) j b) v m refl (set-one (s .positions) j) refl
+  walk-passed m ps' e = lands N n (standOf k ps) (standOf k ps') t t [] (pass here j b) v m refl (left ∙ sym e) refl
 
-  walk-tied : (out : List Symbol) (e : ℕ) → Move (walkAt N n s t) out (tie (walkAt N n s t) j b e) → walkAt N n (standPassed s j) (tablesJoined N n t j b e) ≡ tie (walkAt N n s t) j b e
+  walk-tied : (out : List Symbol) (e : ℕ) → Move here out (tie here j b e) → (ps' t' : List ℕ) → Tied N n ps t j b e ps' t'
+      → walkAt N n (standOf k ps') t' ≡ tie here j b e
   unfolding tie pass join walkAt
-  walk-tied out e m = lands N n s (standPassed s j) t (tablesJoined N n t j b e) out (tie (walkAt N n s t) j b e) v m refl (set-one (s .positions) j) refl
+  walk-tied out e m ps' t' x = lands N n (standOf k ps) (standOf k ps') t t' out (tie here j b e) v m refl (left ∙ sym (x .positions)) (sym (x .tables))
 
-  walk-new : (out : List Symbol) → Move (walkAt N n s t) out (apply (walkAt N n s t) j b Symbol.new)
-      → walkAt N n (standPassed (standCounted s) j) (tablesJoined N n t j b (s .count)) ≡ apply (walkAt N n s t) j b Symbol.new
+  walk-new : (out : List Symbol) → Move here out (apply here j b Symbol.new) → (ps' t' : List ℕ) → Tied N n ps t j b k ps' t'
+      → walkAt N n (standOf (k + 1) ps') t' ≡ apply here j b Symbol.new
   unfolding apply tie pass join fresh walkAt
-  walk-new out m =
-      lands N n s (standPassed (standCounted s) j) t (tablesJoined N n t j b (s .count)) out (apply (walkAt N n s t) j b Symbol.new) v m (omega arith) (set-one (s .positions) j) refl
-
--- the same over the ends
-module _ (N n : ℕ) (l t : List ℕ) (v : Inv (walkAt N n (standOf l) t)) (h : length l ≡ 8) (j b : ℕ) (q : getD l (j + 1) 0 ≡ b) where
-  ends-passed : Move (walkAt N n (standOf l) t) [] (pass (walkAt N n (standOf l) t) j b) → (l' : List ℕ) → l' ≡ set l (j + 1) (b + 1) → walkAt N n (standOf l') t ≡ pass (walkAt N n (standOf l) t) j b
-  ends-passed m l' e = rw (e, stand-passed l j b h q) (walk-passed N n (standOf l) t v j b m)
-
-  ends-tied : (out : List Symbol) (e : ℕ) → Move (walkAt N n (standOf l) t) out (tie (walkAt N n (standOf l) t) j b e) → (l' t' : List ℕ) → Tied N n l t j b e l' t'
-      → walkAt N n (standOf l') t' ≡ tie (walkAt N n (standOf l) t) j b e
-  ends-tied out e m l' t' x = rw (x .ends, x .tables, stand-passed l j b h q) (walk-tied N n (standOf l) t v j b out e m)
-
-  ends-new : (out : List Symbol) → Move (walkAt N n (standOf l) t) out (apply (walkAt N n (standOf l) t) j b Symbol.new) → (l' t' : List ℕ)
-      → Tied N n (set l 0 (getD l 0 0 + 1)) t j b (getD l 0 0) l' t' → walkAt N n (standOf l') t' ≡ apply (walkAt N n (standOf l) t) j b Symbol.new
-  ends-new out m l' t' x =
-      let z : j + 1 ≢ 0 = omega arith in
-      let f : getD (set l 0 (getD l 0 0 + 1)) (j + 1) 0 ≡ b = rw (getD-set-other _ 0 (j + 1)) q in
-      let g : length (set l 0 (getD l 0 0 + 1)) ≡ 8 = simp length-set h in
-      let a : standOf (set (set l 0 (getD l 0 0 + 1)) (j + 1) (b + 1)) ≡ standPassed (standCounted (standOf l)) j =
-      stand-passed (set l 0 (getD l 0 0 + 1)) j b g f ∙ ap (λ (s : Stand). standPassed s j) (stand-counted l h) in
-      rw (x .ends, x .tables, a) (unfold standOf in walk-new N n (standOf l) t v j b out m)
+  walk-new out m ps' t' x =
+      lands N n (standOf k ps) (standOf (k + 1) ps') t t' out (apply here j b Symbol.new) v m (omega arith) (left ∙ sym (x .positions)) (sym (x .tables))
 
 -- signals by number
 abbrev pub signalNo : Signal → ℕ
@@ -116,60 +105,66 @@ signalNo (Refused nr) = 3
 pub apart : {A : Type 0} (x y : Signal) → signalNo x ≢ signalNo y → x ≡ y → A
 apart x y h e = absurd (h (ap signalNo e))
 
--- a step with a symbol, one way through the code at a time
-module _ (N n : ℕ) (l : List ℕ) (c : Cursor) (t page : List ℕ) (j b : ℕ) (v : Served N n l t j b) (asked : partner (walkAt N n (standOf l) t) j b ≡ Partner.asked) (f : CursorFits c page)
-    (k : Taken) (past : PastSymbol k c page) where
-  abbrev w : Walk
-  w = walkAt N n (standOf l) t
+-- what a step leaves: where the walk stands, the bits and the signal
+abbrev turned : Stand → Cursor → Signal → Turned
+turned s c g = record { stand = s; cursor = c; signal = g }
 
-  on : (x : Symbol) (d : Cursor) → told k page ≡ stream.Taken.symbol x (atHand d page) → PastCode c d page → permitted w j b x ≡ true
+-- a step with a symbol, one way through the code at a time
+module _ {N n k : ℕ} {ps : List ℕ} {c : Cursor} {t page : List ℕ} {j b : ℕ} (v : Served N n k ps t j b)
+    (asked : partner (walkAt N n (standOf k ps) t) j b ≡ Partner.asked) (f : CursorFits c page) (got : Taken) (past : PastSymbol got c page) where
+  abbrev w : Walk
+  w = walkAt N n (standOf k ps) t
+
+  on : (x : Symbol) (d : Cursor) → told got page ≡ stream.Taken.symbol x (atHand d page) → PastCode c d page → permitted w j b x ≡ true
       → (s' : Stand) (t' : List ℕ) → walkAt N n s' t' ≡ apply w j b x
-      → Taking N n (standOf l) c t page j b k (record { stand = s'; cursor = d; signal = More }) t'
+      → Taking N n (standOf k ps) c t page j b got (turned s' d More) t'
   unfolding signalStep stepTaken allow
   on x d e p h s' t' q = record { tells = rw (e, h, q); fits = p .fits; used = λ _. p .used; onward = λ z. apart More Ended (omega arith) z }
 
-  off : (x : Symbol) (rest : List Bool) → told k page ≡ stream.Taken.symbol x rest → permitted w j b x ≡ false
-      → Taking N n (standOf l) c t page j b k (record { stand = standOf l; cursor = c; signal = Refused (fault x) }) t
+  off : (x : Symbol) (rest : List Bool) → told got page ≡ stream.Taken.symbol x rest → permitted w j b x ≡ false
+      → Taking N n (standOf k ps) c t page j b got (turned (standOf k ps) c (Refused (fault x))) t
   unfolding signalStep stepTaken allow
   off x rest e h = record { tells = rw (e, h); fits = f; used = λ z. apart (Refused (fault x)) More (omega arith) z; onward = λ z. apart (Refused (fault x)) Ended (omega arith) z }
 
-  pub taking-short : k ≡ taken.Short → Taking N n (standOf l) c t page j b k (record { stand = standOf l; cursor = c; signal = Waits }) t
+  pub taking-short : got ≡ taken.Short → Taking N n (standOf k ps) c t page j b got (turned (standOf k ps) c Waits) t
   unfolding signalStep stepTaken told
   taking-short e = record { tells = rw e; fits = f; used = λ z. apart Waits More (omega arith) z; onward = λ z. apart Waits Ended (omega arith) z }
 
-  pub taking-border : (d : Cursor) → k ≡ taken.Border d → (l' t' : List ℕ) → Tied N n l t j b b l' t' → Taking N n (standOf l) c t page j b k (record { stand = standOf l'; cursor = d; signal = More }) t'
+  pub taking-border : (d : Cursor) → got ≡ taken.Border d → (ps' t' : List ℕ) → Tied N n ps t j b b ps' t'
+      → Taking N n (standOf k ps) c t page j b got (turned (standOf k ps') d More) t'
   unfolding told PastSymbol permitted apply
-  taking-border d e l' t' x =
-      on Symbol.border d (rw e) (rw e at past) refl (standOf l') t'
-      (ends-tied N n l t (v .inv) (v .eight) j b (v .first) (Symbol.border ∷ []) b (Move.reads j b Symbol.border (v .heads) asked refl) l' t' x)
+  taking-border d e ps' t' x =
+      on Symbol.border d (rw e) (rw e at past) refl (standOf k ps') t'
+      (walk-tied N n k ps t (v .inv) j b (v .first) (Symbol.border ∷ []) b (Move.reads j b Symbol.border (v .heads) asked refl) ps' t' x)
 
-  module _ (e : WalkNo) (d : Cursor) (ek : k ≡ taken.Index e d) (y : Bool) (ey : y ≡ mayName N n t (getD l 0 0) j b (e .0)) where
+  module _ (e : WalkNo) (d : Cursor) (ek : got ≡ taken.Index e d) (y : Bool) (ey : y ≡ mayName N n t k j b (e .0)) where
     named : permitted w j b (Symbol.index (e .0)) ≡ y
-    unfolding permitted unknown linkOf walkAt standOf
+    unfolding permitted unknown linkOf walkAt
     named = sym ey
 
-    pub taking-index : y ≡ true → (l' t' : List ℕ) → Tied N n l t j b (e .0) l' t' → Taking N n (standOf l) c t page j b k (record { stand = standOf l'; cursor = d; signal = More }) t'
+    pub taking-index : y ≡ true → (ps' t' : List ℕ) → Tied N n ps t j b (e .0) ps' t'
+        → Taking N n (standOf k ps) c t page j b got (turned (standOf k ps') d More) t'
     unfolding told PastSymbol apply
-    taking-index q l' t' x =
-        on (Symbol.index (e .0)) d (rw ek) (rw ek at past) (named ∙ q) (standOf l') t'
-        (ends-tied N n l t (v .inv) (v .eight) j b (v .first) (Symbol.index (e .0) ∷ []) (e .0) (Move.reads j b (Symbol.index (e .0)) (v .heads) asked (named ∙ q)) l' t' x)
+    taking-index q ps' t' x =
+        on (Symbol.index (e .0)) d (rw ek) (rw ek at past) (named ∙ q) (standOf k ps') t'
+        (walk-tied N n k ps t (v .inv) j b (v .first) (Symbol.index (e .0) ∷ []) (e .0) (Move.reads j b (Symbol.index (e .0)) (v .heads) asked (named ∙ q)) ps' t' x)
 
-    pub taking-12 : y ≡ false → Taking N n (standOf l) c t page j b k (record { stand = standOf l; cursor = c; signal = Refused 12 }) t
+    pub taking-12 : y ≡ false → Taking N n (standOf k ps) c t page j b got (turned (standOf k ps) c (Refused 12)) t
     unfolding told fault
     taking-12 q = off (Symbol.index (e .0)) (atHand d page) (rw ek) (named ∙ q)
 
-  module _ (d : Cursor) (ek : k ≡ taken.New d) where
-    pub taking-new : getD l 0 0 < n → (l' t' : List ℕ) → Tied N n (set l 0 (getD l 0 0 + 1)) t j b (getD l 0 0) l' t'
-        → Taking N n (standOf l) c t page j b k (record { stand = standOf l'; cursor = d; signal = More }) t'
-    unfolding told PastSymbol permitted walkAt standOf
-    taking-new q l' t' x =
-        let p : permitted w j b Symbol.new ≡ true = lt-ltb (getD l 0 0) n q in
-        on Symbol.new d (rw ek) (rw ek at past) p (standOf l') t'
-        (ends-new N n l t (v .inv) (v .eight) j b (v .first) (Symbol.new ∷ []) (Move.reads j b Symbol.new (v .heads) asked p) l' t' x)
+  module _ (d : Cursor) (ek : got ≡ taken.New d) (y : Bool) (ey : y ≡ ltb k n) where
+    pub taking-new : y ≡ true → (ps' t' : List ℕ) → Tied N n ps t j b k ps' t'
+        → Taking N n (standOf k ps) c t page j b got (turned (standOf (k + 1) ps') d More) t'
+    unfolding told PastSymbol permitted walkAt
+    taking-new q ps' t' x =
+        let p : permitted w j b Symbol.new ≡ true = sym ey ∙ q in
+        on Symbol.new d (rw ek) (rw ek at past) p (standOf (k + 1) ps') t'
+        (walk-new N n k ps t (v .inv) j b (v .first) (Symbol.new ∷ []) (Move.reads j b Symbol.new (v .heads) asked p) ps' t' x)
 
-    pub taking-13 : n ≤ getD l 0 0 → Taking N n (standOf l) c t page j b k (record { stand = standOf l; cursor = c; signal = Refused 13 }) t
-    unfolding told fault permitted walkAt standOf
-    taking-13 q = off Symbol.new (atHand d page) (rw ek) (le-ltb (getD l 0 0) n q)
+    pub taking-13 : y ≡ false → Taking N n (standOf k ps) c t page j b got (turned (standOf k ps) c (Refused 13)) t
+    unfolding told fault permitted walkAt
+    taking-13 q = off Symbol.new (atHand d page) (rw ek) (sym ey ∙ q)
 
 -- a dart that may be named is numbered
 pub name-below : (N n : ℕ) (t : List ℕ) (count j b e : ℕ) (y : Bool) → y ≡ mayName N n t count j b e → y ≡ true → e < count
@@ -209,117 +204,120 @@ module _ (N n : ℕ) (s : Stand) (c : Cursor) (t page : List ℕ) (y : Ready N n
           let x = step-move (walkAt N n s t) (atHand c page) (walkAt N n (r .stand) t') (atHand (r .cursor) page) g in
           moved (walkAt N n s t) (walkAt N n (r .stand) t') (x .out) (y .inv) (x .move) .inv
 
--- over the ends, with the lowest queue that isn't empty
-module _ (N n : ℕ) (l : List ℕ) (c : Cursor) (t page : List ℕ) (y : Ready N n (standOf l) c t page) where
-  pub ready-eight : length l ≡ 8
+-- one turn, over the count and the positions: none where all queues are empty, or at the head of the lowest queue that isn't
+module _ {N n k : ℕ} {ps : List ℕ} {c : Cursor} {t page : List ℕ} (y : Ready N n (standOf k ps) c t page) where
+  pub ready-seven : length ps ≡ 7
   unfolding walkAt
-  ready-eight = ends-eight l (y .inv .shape .seven)
+  ready-seven = y .inv .shape .seven
 
-  module _ (j : ℕ) (low : Lowest l N j) where
-    pub turn-ended : N < j → Turns N n (standOf l) c t page (record { stand = standOf l; cursor = c; signal = Ended }) t
-    unfolding signalStep step stepAt
-    turn-ended h = turns N n (standOf l) c t page y (record { stand = standOf l; cursor = c; signal = Ended }) t (rw o) (y .fits) (λ z. apart Ended More (omega arith) z) (λ _. go (y .begun))
-      where
-        o : head (walkAt N n (standOf l) t) ≡ Head.none
-        o = lowest-over N n l t (y .inv .shape) j low h
+  pub turn-ended : {j : ℕ} → Emptied k ps j → N < j → Turns N n (standOf k ps) c t page (turned (standOf k ps) c Ended) t
+  unfolding signalStep step stepAt
+  turn-ended {j} low h =
+      turns N n (standOf k ps) c t page y (turned (standOf k ps) c Ended) t (rw o) (y .fits) (λ z. apart Ended More (omega arith) z) (λ _. go (y .begun))
+    where
+      o : head (walkAt N n (standOf k ps) t) ≡ Head.none
+      o = unfold walkAt in head-past (walkAt N n (standOf k ps) t) (y .inv .shape) j low h
 
-        go : (c .waiting ≡ 0) ⊎ Asks (walkAt N n (standOf l) t) (bitsOf (c .waiting) (c .value)) → c .waiting ≡ 0
-        go (inl q) = q
-        go (inr a) = let e = o in let q = a .next in let z : _≡_ {A = ℕ} 0 1 = cc in absurd (omega arith)
+      go : (c .waiting ≡ 0) ⊎ Asks (walkAt N n (standOf k ps) t) (bitsOf (c .waiting) (c .value)) → c .waiting ≡ 0
+      go (inl q) = q
+      go (inr a) = let e = o in let q = a .next in let z : _≡_ {A = ℕ} 0 1 = cc in absurd (omega arith)
 
-    module _ (hj : j ≤ N) where
-      -- the head of Lj
-      abbrev b : ℕ
-      b = getD l (j + 1) 0
+  module _ {j : ℕ} (low : Lowest k ps j) (hj : j ≤ N) where
+    -- the head of Lj
+    abbrev b : ℕ
+    b = getD ps j 0
 
-      heads : head (walkAt N n (standOf l) t) ≡ Head.at j b
-      heads = lowest-here N n l t (y .inv .shape) j low hj
+    heads : head (walkAt N n (standOf k ps) t) ≡ Head.at j b
+    unfolding walkAt
+    heads = head-lowest (walkAt N n (standOf k ps) t) (y .inv .shape) j (low .emptied) hj (low .filled)
 
-      pub served : Served N n l t j (getD l (j + 1) 0)
-      unfolding walkAt standOf
-      served =
-          let z = turn (walkAt N n (standOf l) t) (y .inv .shape) j b heads .next in
-          record {
-            inv = y .inv;
-            heads = heads;
-            limits = ready-limits N n (standOf l) c t page y;
-            eight = ready-eight;
-            emptied = low .emptied;
-            ranked = hj;
-            first = refl;
-            below = omega (arith, z .there, bound-le-count (walkAt N n (standOf l) t) (y .inv .shape) j hj);
-            within = y .inv .shape .within;
-          }
+    pub served : Served N n k ps t j (getD ps j 0)
+    unfolding walkAt
+    served = record {
+      inv = y .inv;
+      heads = heads;
+      limits = ready-limits N n (standOf k ps) c t page y;
+      seven = ready-seven;
+      emptied = low .emptied;
+      ranked = hj;
+      first = refl;
+      below = low .filled;
+      within = y .inv .shape .within;
+    }
 
-      module _ (p : Case) (ep : toldPartner p ≡ partner (looking N n t) j (getD l (j + 1) 0)) where
-        seen : partner (walkAt N n (standOf l) t) j b ≡ toldPartner p
+    module _ (p : Case) (ep : toldPartner p ≡ partner (looking N n t) j (getD ps j 0)) where
+      seen : partner (walkAt N n (standOf k ps) t) j b ≡ toldPartner p
+      unfolding walkAt
+      seen = partner-looking (walkAt N n (standOf k ps) t) j b ∙ sym ep
+
+      -- the step by its case
+      stepping : (bs : List Bool) (q : Partner) → toldPartner p ≡ q → step (walkAt N n (standOf k ps) t) bs ≡ stepWith (walkAt N n (standOf k ps) t) bs j b q
+      unfolding step stepAt
+      stepping bs q e = rw (heads, seen, e)
+
+      -- bits wait only where a symbol is asked
+      still : toldPartner p ≢ Partner.asked → c .waiting ≡ 0
+      still ne = go (y .begun)
+        where
+          go : (c .waiting ≡ 0) ⊎ Asks (walkAt N n (standOf k ps) t) (bitsOf (c .waiting) (c .value)) → c .waiting ≡ 0
+          go (inl q) = q
+          go (inr a) =
+              let h = heads in
+              let ej : a .rank ≡ j = at-rank (a .next) h in
+              let eb : a .dart ≡ b = at-dart (a .next) h in
+              absurd (ne (sym seen ∙ (ap (λ (i : ℕ). partner (walkAt N n (standOf k ps) t) i b) (sym ej) ∙ (ap (partner (walkAt N n (standOf k ps) t) (a .rank)) (sym eb) ∙ a .needs))))
+
+      pub turn-known : p ≡ Known → (ps' : List ℕ) → ps' ≡ set ps j (getD ps j 0 + 1) → Turns N n (standOf k ps) c t page (turned (standOf k ps') c More) t
+      unfolding signalStep stepWith
+      turn-known e ps' z =
+          let x : toldPartner p ≡ Partner.known = ap toldPartner e in
+          let g = walk-passed N n k ps t (y .inv) j b refl (Move.passes j b heads (seen ∙ x)) ps' z in
+          turns N n (standOf k ps) c t page y (turned (standOf k ps') c More) t (rw (stepping (atHand c page) Partner.known x, g)) (y .fits)
+          (λ _. still (λ a. known-asked (sym x ∙ a))) (λ a. apart More Ended (omega arith) a)
+
+      module _ (e : WalkNo) (ee : p ≡ Deduced e) where
+        deduces : toldPartner p ≡ Partner.deduced (e .0)
+        deduces = ap toldPartner ee
+
+        -- a deduced partner has a number
+        pub deduced-small : e .0 < n
         unfolding walkAt
-        seen = partner-looking (walkAt N n (standOf l) t) j b ∙ sym ep
+        deduced-small =
+            let d = see-deduced (walkAt N n (standOf k ps) t) j b (e .0) (seen ∙ deduces) in
+            let l = deduced-below (walkAt N n (standOf k ps) t) (y .inv) (d .i) j b (next-of (walkAt N n (standOf k ps) t) (y .inv) heads) (d .gap) (d .known) in
+            omega (arith, d .value, l, y .inv .shape .within)
 
-        -- the step by its case
-        stepping : (bs : List Bool) (q : Partner) → toldPartner p ≡ q → step (walkAt N n (standOf l) t) bs ≡ stepWith (walkAt N n (standOf l) t) bs j b q
-        unfolding step stepAt
-        stepping bs q e = rw (heads, seen, e)
+        module _ (x : ℕ) (ex : x ≡ link N n t j (e .0)) where
+          pub turn-tied : x ≡ mark → (ps' t' : List ℕ) → Tied N n ps t j b (e .0) ps' t' → Turns N n (standOf k ps) c t page (turned (standOf k ps') c More) t'
+          unfolding signalStep stepWith allow
+          turn-tied q ps' t' z =
+              let u : unknown (walkAt N n (standOf k ps) t) j (e .0) ≡ true = unfold unknown linkOf walkAt in eq-eqb (link N n t j (e .0)) mark (sym ex ∙ q) in
+              let g = walk-tied N n k ps t (y .inv) j b refl [] (e .0) (Move.deduces j b (e .0) heads (seen ∙ deduces) u) ps' t' z in
+              turns N n (standOf k ps) c t page y (turned (standOf k ps') c More) t'
+              (rw (stepping (atHand c page) (Partner.deduced (e .0)) deduces, u, g)) (y .fits)
+              (λ _. still (λ a. deduced-asked (sym deduces ∙ a))) (λ a. apart More Ended (omega arith) a)
 
-        -- bits wait only where a symbol is asked
-        still : toldPartner p ≢ Partner.asked → c .waiting ≡ 0
-        still ne = go (y .begun)
+          pub turn-14 : x ≢ mark → Turns N n (standOf k ps) c t page (turned (standOf k ps) c (Refused 14)) t
+          unfolding signalStep stepWith allow
+          turn-14 q =
+              let u : unknown (walkAt N n (standOf k ps) t) j (e .0) ≡ false = unfold unknown linkOf walkAt in ne-eqb (link N n t j (e .0)) mark (λ z. q (ex ∙ z)) in
+              turns N n (standOf k ps) c t page y (turned (standOf k ps) c (Refused 14)) t
+              (rw (stepping (atHand c page) (Partner.deduced (e .0)) deduces, u)) (y .fits)
+              (λ a. apart (Refused 14) More (omega arith) a) (λ a. apart (Refused 14) Ended (omega arith) a)
+
+      module _ (ea : p ≡ Asked) where
+        pub asks : partner (walkAt N n (standOf k ps) t) j b ≡ Partner.asked
+        asks = seen ∙ ap toldPartner ea
+
+        pub turn-asked : (got : Taken) → SymbolTaken got c page → (r : Turned) (t' : List ℕ)
+            → ((page' : List ℕ) → CursorFits c page' → PastSymbol got c page' → Taking N n (standOf k ps) c t page' j b got r t')
+            → Turns N n (standOf k ps) c t page r t'
+        unfolding stepWith
+        turn-asked got st r t' f =
+            let x = f page (y .fits) (st .past) in
+            turns N n (standOf k ps) c t page y r t'
+            (x .tells ∙ rw (stepping (atHand c page) Partner.asked (ap toldPartner ea), st .tells)) (x .fits) (λ q. x .used q (begun (y .begun))) (λ q. absurd (x .onward q))
           where
-            go : (c .waiting ≡ 0) ⊎ Asks (walkAt N n (standOf l) t) (bitsOf (c .waiting) (c .value)) → c .waiting ≡ 0
-            go (inl q) = q
-            go (inr a) =
-                let h = heads in
-                let ej : a .rank ≡ j = at-rank (a .next) h in
-                let eb : a .dart ≡ b = at-dart (a .next) h in
-                absurd (ne (sym seen ∙ (ap (λ (i : ℕ). partner (walkAt N n (standOf l) t) i b) (sym ej) ∙ (ap (partner (walkAt N n (standOf l) t) (a .rank)) (sym eb) ∙ a .needs))))
-
-        pub turn-known : p ≡ Known → (l' : List ℕ) → l' ≡ set l (j + 1) (getD l (j + 1) 0 + 1) → Turns N n (standOf l) c t page (record { stand = standOf l'; cursor = c; signal = More }) t
-        unfolding signalStep stepWith
-        turn-known e l' el =
-            let k : toldPartner p ≡ Partner.known = ap toldPartner e in
-            let g = ends-passed N n l t (y .inv) ready-eight j b refl (Move.passes j b heads (seen ∙ k)) l' el in
-            turns N n (standOf l) c t page y (record { stand = standOf l'; cursor = c; signal = More }) t (rw (stepping (atHand c page) Partner.known k, g)) (y .fits)
-            (λ _. still (λ z. known-asked (sym k ∙ z))) (λ z. apart More Ended (omega arith) z)
-
-        module _ (e : WalkNo) (ee : p ≡ Deduced e) where
-          deduces : toldPartner p ≡ Partner.deduced (e .0)
-          deduces = ap toldPartner ee
-
-          -- a deduced partner has a number
-          pub deduced-small : e .0 < n
-          unfolding walkAt
-          deduced-small =
-              let d = see-deduced (walkAt N n (standOf l) t) j b (e .0) (seen ∙ deduces) in
-              let l = deduced-below (walkAt N n (standOf l) t) (y .inv) (d .i) j b (next-of (walkAt N n (standOf l) t) (y .inv) heads) (d .gap) (d .known) in
-              omega (arith, d .value, l, y .inv .shape .within)
-
-          module _ (x : ℕ) (ex : x ≡ link N n t j (e .0)) where
-            pub turn-tied : x ≡ mark → (l' t' : List ℕ) → Tied N n l t j b (e .0) l' t' → Turns N n (standOf l) c t page (record { stand = standOf l'; cursor = c; signal = More }) t'
-            unfolding signalStep stepWith allow
-            turn-tied q l' t' z =
-                let u : unknown (walkAt N n (standOf l) t) j (e .0) ≡ true = unfold unknown linkOf walkAt in eq-eqb (link N n t j (e .0)) mark (sym ex ∙ q) in
-                let g = ends-tied N n l t (y .inv) ready-eight j b refl [] (e .0) (Move.deduces j b (e .0) heads (seen ∙ deduces) u) l' t' z in
-                turns N n (standOf l) c t page y (record { stand = standOf l'; cursor = c; signal = More }) t' (rw (stepping (atHand c page) (Partner.deduced (e .0)) deduces, u, g)) (y .fits)
-                (λ _. still (λ a. deduced-asked (sym deduces ∙ a))) (λ a. apart More Ended (omega arith) a)
-
-            pub turn-14 : x ≢ mark → Turns N n (standOf l) c t page (record { stand = standOf l; cursor = c; signal = Refused 14 }) t
-            unfolding signalStep stepWith allow
-            turn-14 q =
-                let u : unknown (walkAt N n (standOf l) t) j (e .0) ≡ false = unfold unknown linkOf walkAt in ne-eqb (link N n t j (e .0)) mark (λ z. q (ex ∙ z)) in
-                turns N n (standOf l) c t page y (record { stand = standOf l; cursor = c; signal = Refused 14 }) t (rw (stepping (atHand c page) (Partner.deduced (e .0)) deduces, u)) (y .fits)
-                (λ a. apart (Refused 14) More (omega arith) a) (λ a. apart (Refused 14) Ended (omega arith) a)
-
-        module _ (ea : p ≡ Asked) where
-          pub asks : partner (walkAt N n (standOf l) t) j b ≡ Partner.asked
-          asks = seen ∙ ap toldPartner ea
-
-          pub turn-asked : (k : Taken) → SymbolTaken k c page → (r : Turned) (t' : List ℕ)
-              → ((page' : List ℕ) → CursorFits c page' → PastSymbol k c page' → Taking N n (standOf l) c t page' j b k r t') → Turns N n (standOf l) c t page r t'
-          unfolding stepWith
-          turn-asked k st r t' f =
-              let x = f page (y .fits) (st .past) in
-              turns N n (standOf l) c t page y r t' (x .tells ∙ rw (stepping (atHand c page) Partner.asked (ap toldPartner ea), st .tells)) (x .fits) (λ q. x .used q (begun (y .begun))) (λ q. absurd (x .onward q))
-            where
-              begun : (c .waiting ≡ 0) ⊎ Asks (walkAt N n (standOf l) t) (bitsOf (c .waiting) (c .value)) → begins (bitsOf (c .waiting) (c .value)) ≡ true
-              begun (inl q) = unfold bitsOf begins in rw q
-              begun (inr a) = a .begun
+            begun : (c .waiting ≡ 0) ⊎ Asks (walkAt N n (standOf k ps) t) (bitsOf (c .waiting) (c .value)) → begins (bitsOf (c .waiting) (c .value)) ≡ true
+            begun (inl q) = unfold bitsOf begins in rw q
+            begun (inr a) = a .begun

@@ -4,14 +4,14 @@ use mathlib.Core.Path.{_≡_}
 use mathlib.Core.Logic.{_≢_, _⊎_}
 use mathlib.Core.Bool.{Bool, true, not, _&&_}
 use mathlib.Core.List.{List}
-use lib.ListN.{length, getD, set, drop}
+use lib.ListN.{length, getD, set}
 use lib.Dec.{eqb, ltb}
 use Rattle.rules.specs.Map.{Limits, mark, place, link}
 use Rattle.rules.specs.Walk.{Walk, Head, head}
 use Rattle.rules.specs.Stream.{bitsOf}
 use Rattle.rules.specs.Reading.{Run, Step, stepTaken, step, runAll}
 use Rattle.rules.specs.Session.{queuesOf, begins}
-use Rattle.rules.proofs.Ends.{Emptied}
+use Rattle.rules.proofs.Lowest.{Emptied}
 use Rattle.rules.proofs.Walks.{Inv}
 use Rattle.rules.proofs.Readings.{Asks}
 use Rattle.symbols.specs.declared.Cursor.{Cursor}
@@ -64,22 +64,22 @@ tablesJoined N n t j b e = set (set t (place N n j b) e) (place N n j e) b
 abbrev pub mayName : ℕ → ℕ → List ℕ → ℕ → ℕ → ℕ → ℕ → Bool
 mayName N n t count j b e = ltb e count && not (eqb e b) && eqb (link N n t j e) mark
 
--- the stand that ends stand for: Lj holds the walk numbers from the end at j + 1 up to the end at j
-unfoldable pub standOf : List ℕ → Stand
-standOf l = record { count = getD l 0 0; positions = drop 1 l }
+-- the stand of a count and positions
+abbrev pub standOf : ℕ → List ℕ → Stand
+standOf k ps = record { count = k; positions = ps }
 
--- what a turn leaves, with the stand of the ends that it leaves
+-- what a turn leaves, with the positions that it leaves
 abbrev pub turnedAt : Outcome → List ℕ → Turned
-turnedAt r l = record { stand = standOf l; cursor = r .cursor; signal = r .signal }
+turnedAt r ps = record { stand = standOf (r .count) ps; cursor = r .cursor; signal = r .signal }
 
--- Lj is the lowest queue that isn't empty, or all are empty
-pub record Lowest (l : List ℕ) (N j : ℕ) : Type 0 where
-  pub emptied : Emptied l j
-  pub filled : j ≤ N → getD l (j + 1) 0 < getD l j 0
+-- Lj is the lowest queue that isn't empty
+pub record Lowest (k : ℕ) (ps : List ℕ) (j : ℕ) : Type 0 where
+  pub emptied : Emptied k ps j
+  pub filled : getD ps j 0 < k
 
 -- aj(b) = e was made known, and b has left Lj
-pub record Tied (N n : ℕ) (l t : List ℕ) (j b e : ℕ) (l' t' : List ℕ) : Type 0 where
-  pub ends : l' ≡ set l (j + 1) (b + 1)
+pub record Tied (N n : ℕ) (ps t : List ℕ) (j b e : ℕ) (ps' t' : List ℕ) : Type 0 where
+  pub positions : ps' ≡ set ps j (b + 1)
   pub tables : t' ≡ tablesJoined N n t j b e
 
 -- a walk that may be stepped: what holds of it, the bits at hand, and bits wait only where a symbol is asked that they begin
@@ -90,16 +90,16 @@ pub record Ready (N n : ℕ) (s : Stand) (c : Cursor) (t page : List ℕ) : Type
   pub begun : (c .waiting ≡ 0) ⊎ Asks (walkAt N n s t) (bitsOf (c .waiting) (c .value))
 
 -- b is at the head of Lj
-pub record Served (N n : ℕ) (l t : List ℕ) (j b : ℕ) : Type 0 where
-  pub inv : Inv (walkAt N n (standOf l) t)
-  pub heads : head (walkAt N n (standOf l) t) ≡ Head.at j b
+pub record Served (N n k : ℕ) (ps t : List ℕ) (j b : ℕ) : Type 0 where
+  pub inv : Inv (walkAt N n (standOf k ps) t)
+  pub heads : head (walkAt N n (standOf k ps) t) ≡ Head.at j b
   pub limits : Limits N n t
-  pub eight : length l ≡ 8
-  pub emptied : Emptied l j
+  pub seven : length ps ≡ 7
+  pub emptied : Emptied k ps j
   pub ranked : j ≤ N
-  pub first : getD l (j + 1) 0 ≡ b
-  pub below : b < getD l 0 0
-  pub within : getD l 0 0 ≤ n
+  pub first : getD ps j 0 ≡ b
+  pub below : b < k
+  pub within : k ≤ n
 
 -- what a step with a symbol leaves: it never comes to the end, and no bit waits where those that did begin a symbol
 pub record Taking (N n : ℕ) (s : Stand) (c : Cursor) (t page : List ℕ) (j b : ℕ) (taken : Taken) (r : Turned) (t' : List ℕ) : Type 0 where

@@ -7,10 +7,11 @@ ghost use mathlib.Core.Path.{_≡_};
 ghost use mathlib.Core.List.{List};
 ghost use Prim.Native.Nat.{ℕ, _+_, _-_, _≤_, _<_};
 ghost use lib.ListN.{length, set};
+ghost use lib.Dec.{ltb};
 ghost use Rattle.rules.specs.Map.{Limits, link};
 ghost use Rattle.rules.specs.Walk;
 ghost use Rattle.symbols.specs.Cursors.{CursorFits, PastSymbol};
-ghost use Rattle.rules.proofs.Ends.{Emptied};
+ghost use Rattle.rules.proofs.Lowest.{Emptied};
 ghost use Rattle.steps.specs.Partners.{looking, toldPartner};
 ghost use Rattle.steps.specs.Turns.{walkAt, tablesJoined, mayName, standOf, turnedAt, Lowest, Tied, Ready, Served, Taking, Turns, Runs};
 
@@ -42,10 +43,10 @@ pub struct Turned {
     pub signal: Signal,
 }
 
-// What a step comes to, with a rank below which all queues are empty. The walk itself stands in the ends, eight numbers that a run lends:
-// the count, then the positions, so that Lj holds the walk numbers from ends[j + 1] up to ends[j].
+// What a step comes to, beside the positions, which are lent: a rank below which all queues are empty, and the count.
 pub struct Outcome {
     pub rank: usize,
+    pub count: u16,
     pub cursor: Cursor,
     pub signal: Signal,
 }
@@ -119,78 +120,85 @@ pub fn nameable(
     follow(tables, dim, darts, j, e).0 == Session::NO_LINK
 }
 
+// An N must find a dart that has no number yet.
+pub fn dart_left(darts: usize, count: u16) -> bool
+    ensures { λ r. ⌜ r ≡ ltb count darts ⌝ }
+{
+    (count as usize) < darts
+}
+
 // Where a step leaves off.
-pub fn comes_to(rank: usize, cursor: Cursor, signal: Signal) -> Outcome
-    ensures { λ r. ⌜ r ≡ record { rank = rank; cursor = cursor; signal = signal } ⌝ }
+pub fn comes_to(rank: usize, count: u16, cursor: Cursor, signal: Signal) -> Outcome
+    ensures { λ r. ⌜ r ≡ record { rank = rank; count = count; cursor = cursor; signal = signal } ⌝ }
 {
     Outcome {
         rank,
+        count,
         cursor,
         signal,
     }
 }
 
 // b has left Lj.
-pub fn passed(ends: &mut [u16], j: usize, b: WalkNo)
-    requires { ⌜ (length (now ends) ≡ 8) × (j ≤ 6) × (b .0 < 65535) ⌝ }
-    ensures { λ _. ⌜ now (ends .exit) ≡ set (now (ends .entry)) (j + 1) (b .0 + 1) ⌝ }
+pub fn passed(positions: &mut [u16], j: usize, b: WalkNo)
+    requires { ⌜ (length (now positions) ≡ 7) × (j ≤ 6) × (b .0 < 65535) ⌝ }
+    ensures { λ _. ⌜ now (positions .exit) ≡ set (now (positions .entry)) j (b .0 + 1) ⌝ }
 {
-    ends[j + 1] = b.0 + 1;
+    positions[j] = b.0 + 1;
 }
 
 // The step that makes aj(b) = e known.
 pub fn tied(
     tables: &mut [u16],
-    ends: &mut [u16],
+    positions: &mut [u16],
     dim: usize,
     darts: usize,
     j: usize,
     b: WalkNo,
     e: WalkNo,
 )
-    requires { ⌜ Limits dim darts (now tables) × (length (now ends) ≡ 8) × (j ≤ dim) × (b .0 < darts) × (e .0 < darts) ⌝ }
-    ensures { λ _. ⌜ Tied dim darts (now (ends .entry)) (now (tables .entry)) j (b .0) (e .0) (now (ends .exit)) (now (tables .exit)) ⌝ }
+    requires { ⌜ Limits dim darts (now tables) × (length (now positions) ≡ 7) × (j ≤ dim) × (b .0 < darts) × (e .0 < darts) ⌝ }
+    ensures { λ _. ⌜ Tied dim darts (now (positions .entry)) (now (tables .entry)) j (b .0) (e .0) (now (positions .exit)) (now (tables .exit)) ⌝ }
 {
     join(tables, dim, darts, j, b, e);
-    passed(ends, j, b);
+    passed(positions, j, b);
 }
 
 // A step by a symbol that was taken at the head b of Lj. A new dart enters L0, so the next search begins there.
 pub fn by_symbol(
     tables: &mut [u16],
-    ends: &mut [u16],
+    positions: &mut [u16],
     dim: usize,
     darts: usize,
+    count: u16,
     c: Cursor,
     j: usize,
     b: WalkNo,
     taken: Taken,
 ) -> Outcome
-    requires { ⌜ Served dim darts (now ends) (now tables) j (b .0) × (Rattle.rules.specs.Walk.partner (walkAt dim darts (standOf (now ends)) (now tables)) j (b .0) ≡ Rattle.rules.specs.Walk.Partner.asked) ⌝ }
-    ensures { λ r. ⌜ ((page : List ℕ) → CursorFits c page → PastSymbol taken c page → Taking dim darts (standOf (now (ends .entry))) c (now (tables .entry)) page j (b .0) taken (turnedAt r (now (ends .exit))) (now (tables .exit))) × Emptied (now (ends .exit)) (r .rank) ⌝ }
+    requires { ⌜ Served dim darts count (now positions) (now tables) j (b .0) × (Rattle.rules.specs.Walk.partner (walkAt dim darts (standOf count (now positions)) (now tables)) j (b .0) ≡ Rattle.rules.specs.Walk.Partner.asked) ⌝ }
+    ensures { λ r. ⌜ ((page : List ℕ) → CursorFits c page → PastSymbol taken c page → Taking dim darts (standOf count (now (positions .entry))) c (now (tables .entry)) page j (b .0) taken (turnedAt r (now (positions .exit))) (now (tables .exit))) × Emptied (r .count) (now (positions .exit)) (r .rank) ⌝ }
 {
     match taken {
-        Taken::Short => comes_to(j, c, Signal::Waits),
+        Taken::Short => comes_to(j, count, c, Signal::Waits),
         Taken::Border(d) => {
-            tied(tables, ends, dim, darts, j, b, b);
-            comes_to(j, d, Signal::More)
+            tied(tables, positions, dim, darts, j, b, b);
+            comes_to(j, count, d, Signal::More)
         }
         Taken::Index(e, d) => {
-            if nameable(tables, dim, darts, ends[0], j, b, e) {
-                tied(tables, ends, dim, darts, j, b, e);
-                comes_to(j, d, Signal::More)
+            if nameable(tables, dim, darts, count, j, b, e) {
+                tied(tables, positions, dim, darts, j, b, e);
+                comes_to(j, count, d, Signal::More)
             } else {
-                comes_to(j, c, Signal::Refused(12))
+                comes_to(j, count, c, Signal::Refused(12))
             }
         }
         Taken::New(d) => {
-            let n = ends[0];
-            if (n as usize) < darts {
-                ends[0] = n + 1;
-                tied(tables, ends, dim, darts, j, b, WalkNo(n));
-                comes_to(0, d, Signal::More)
+            if dart_left(darts, count) {
+                tied(tables, positions, dim, darts, j, b, WalkNo(count));
+                comes_to(0, count + 1, d, Signal::More)
             } else {
-                comes_to(j, c, Signal::Refused(13))
+                comes_to(j, count, c, Signal::Refused(13))
             }
         }
     }
@@ -199,60 +207,65 @@ pub fn by_symbol(
 // One step with the bits at hand, at the head of Lj.
 pub fn turn(
     tables: &mut [u16],
-    ends: &mut [u16],
+    positions: &mut [u16],
     dim: usize,
     darts: usize,
+    count: u16,
     j: usize,
     c: Cursor,
     page: &[u8],
 ) -> Outcome
-    requires { ⌜ Ready dim darts (standOf (now ends)) c (now tables) (now page) × (j ≤ dim) × Lowest (now ends) dim j ⌝ }
-    ensures { λ r. ⌜ Turns dim darts (standOf (now (ends .entry))) c (now (tables .entry)) (now (page .entry)) (turnedAt r (now (ends .exit))) (now (tables .exit)) × Emptied (now (ends .exit)) (r .rank) ⌝ }
+    requires { ⌜ Ready dim darts (standOf count (now positions)) c (now tables) (now page) × (j ≤ dim) × Lowest count (now positions) j ⌝ }
+    ensures { λ r. ⌜ Turns dim darts (standOf count (now (positions .entry))) c (now (tables .entry)) (now (page .entry)) (turnedAt r (now (positions .exit))) (now (tables .exit)) × Emptied (r .count) (now (positions .exit)) (r .rank) ⌝ }
 {
-    let b = WalkNo(ends[j + 1]);
+    let b = WalkNo(positions[j]);
     match partner(tables, dim, darts, j, b) {
         Case::Known => {
-            passed(ends, j, b);
-            comes_to(j, c, Signal::More)
+            passed(positions, j, b);
+            comes_to(j, count, c, Signal::More)
         }
         Case::Deduced(e) => {
             if follow(tables, dim, darts, j, e).0 == Session::NO_LINK {
-                tied(tables, ends, dim, darts, j, b, e);
-                comes_to(j, c, Signal::More)
+                tied(tables, positions, dim, darts, j, b, e);
+                comes_to(j, count, c, Signal::More)
             } else {
-                comes_to(j, c, Signal::Refused(14))
+                comes_to(j, count, c, Signal::Refused(14))
             }
         }
         Case::Asked => {
             let taken = c.take_symbol(page);
-            by_symbol(tables, ends, dim, darts, c, j, b, taken)
+            by_symbol(tables, positions, dim, darts, count, c, j, b, taken)
         }
     }
 }
 
-// Every step that needs no bit beyond those at hand, over the ends.
+// Every step that needs no bit beyond those at hand; each writes one place of the positions. With the queues below Lj
+// empty, Lj holds the walk numbers from its position up to the count.
 pub fn walk_on(
     tables: &mut [u16],
-    ends: &mut [u16],
+    positions: &mut [u16],
     dim: usize,
     darts: usize,
+    count: u16,
     c: Cursor,
     page: &[u8],
 ) -> Outcome
-    requires { ⌜ Ready dim darts (standOf (now ends)) c (now tables) (now page) ⌝ }
-    ensures { λ r. ⌜ Runs dim darts (standOf (now (ends .entry))) c (now (tables .entry)) (now (page .entry)) (turnedAt r (now (ends .exit))) (now (tables .exit)) ⌝ }
+    requires { ⌜ Ready dim darts (standOf count (now positions)) c (now tables) (now page) ⌝ }
+    ensures { λ r. ⌜ Runs dim darts (standOf count (now (positions .entry))) c (now (tables .entry)) (now (page .entry)) (turnedAt r (now (positions .exit))) (now (tables .exit)) ⌝ }
 {
     let mut rank = 0;
+    let mut numbered = count;
     let mut cursor = c;
     while rank <= dim {
-        if ends[rank] <= ends[rank + 1] {
+        if numbered <= positions[rank] {
             rank += 1;
         } else {
-            let t = turn(tables, ends, dim, darts, rank, cursor, page);
+            let t = turn(tables, positions, dim, darts, numbered, rank, cursor, page);
             let signal = t.signal;
             match signal {
                 Signal::More => {
                     rank = t.rank;
+                    numbered = t.count;
                     cursor = t.cursor;
                 }
                 Signal::Ended => {
@@ -267,37 +280,20 @@ pub fn walk_on(
             }
         }
     }
-    comes_to(rank, cursor, Signal::Ended)
+    comes_to(rank, numbered, cursor, Signal::Ended)
 }
 
-// The stand that ends stand for.
-pub fn stand_at(ends: &[u16]) -> Stand
-    requires { ⌜ length (now ends) ≡ 8 ⌝ }
-    ensures { λ r. ⌜ r ≡ standOf (now (ends .entry)) ⌝ }
-{
-    Stand {
-        count: ends[0],
-        positions: [
-            ends[1],
-            ends[2],
-            ends[3],
-            ends[4],
-            ends[5],
-            ends[6],
-            ends[7],
-        ],
-    }
-}
-
-// The same from a stand: the ends are lent, so that no step copies them.
+// The same from a stand: its positions are lent, so that no step copies them.
 pub fn run(tables: &mut [u16], dim: usize, darts: usize, s: Stand, c: Cursor, page: &[u8]) -> Turned
     requires { ⌜ Ready dim darts s c (now tables) (now page) ⌝ }
     ensures { λ r. ⌜ Runs dim darts s c (now (tables .entry)) (now (page .entry)) r (now (tables .exit)) ⌝ }
 {
-    let p = s.positions;
-    let mut ends = [s.count, p[0], p[1], p[2], p[3], p[4], p[5], p[6]];
-    let t = walk_on(tables, &mut ends, dim, darts, c, page);
-    let stand = stand_at(&ends);
+    let mut positions = s.positions;
+    let t = walk_on(tables, &mut positions, dim, darts, s.count, c, page);
+    let stand = Stand {
+        count: t.count,
+        positions,
+    };
     let cursor = t.cursor;
     let signal = t.signal;
     Turned {

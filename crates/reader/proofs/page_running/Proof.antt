@@ -16,7 +16,7 @@ cast-go-on-2 c = search needs
 go-on-requires : tie.Need-go-on-requires
 go-on-requires c κs =
     let s = c .before .before .before .before .before .before in
-    running-may (s .args .s) _ (c .before .before .before .stand-of .ensures) _ _ (s .pre)
+    running-may (s .args .s) _ (c .before .before .before .stand-of .ensures) _ _ (s .pre) _ (search needs)
 
 same-length : tie.Need-same-length
 same-length c = search needs
