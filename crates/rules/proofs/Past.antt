@@ -77,7 +77,7 @@ module _ (N n : ℕ) (t u : List ℕ) (A : Alike (size N n) t u) where
   room-same : (f : ℕ → Bool) (b : Bool) → ((l : ℕ) → size N n ≤ l → f l ≡ b) → f (length t) ≡ f (length u)
   room-same f b p = alike-by (size N n) (λ l. f (length l)) (λ m x h. p (length (m ++ x)) (simp length-append (omega arith)) ∙ sym (p (length m) h)) t u A
 
-  -- 3, of the check and of a header
+  -- whether the tables hold the entries: 3 of the check, and the room of a fit session
   short-alike : ltb (length t) (size N n) ≡ ltb (length u) (size N n)
   short-alike = room-same (λ l. ltb l (size N n)) false (λ l h. le-ltb l (size N n) h)
 
@@ -113,7 +113,7 @@ module _ (N n : ℕ) (t u : List ℕ) (A : Alike (size N n) t u) where
       let r = firstBroken-alike ps (λ k l. f (suc k) (omega arith)) in
       λ j. elim (ltb (e j) n) as (λ _. ℕ) [ true ↦ e j | false ↦ r j ]
 
-  pub manifold-alike : N ≤ 6 → firstBroken N n t (pairsOf N) ≡ firstBroken N n u (pairsOf N)
+  manifold-alike : N ≤ 6 → firstBroken N n t (pairsOf N) ≡ firstBroken N n u (pairsOf N)
   manifold-alike h6 = firstBroken-alike (pairsOf N) (pairs-within N h6)
 
   -- what is reached is the same
