@@ -22,7 +22,7 @@ use Rattle.rules.specs.Map.{dimFits, dartsFit, size, place, link, Limits}
 use Rattle.rules.specs.Walk.{head}
 use Rattle.rules.specs.Stream.{bitsOf}
 use Rattle.rules.specs.Session.{walkOf, waitingOf, valueFits, onlyBits, positionsFit, entryFits, entriesFit, walkFits, asks, begins, allDone, fitAs, fit}
-use Rattle.rules.proofs.Lists.{and-left, and-right, or-left, or-right, not-both, all-below, below-all}
+use Rattle.rules.proofs.Lists.{and-left, and-right, or-left, or-right, not-both, all-below, below-all, below-same}
 use Rattle.rules.proofs.Places.{place-below, place-row, rank-nth, dart-nth}
 use Rattle.rules.proofs.Codes.{length-bits}
 use Rattle.tables.proofs.Laws.{entry-link}
@@ -168,12 +168,6 @@ blank-yes t k e = eq-eqb (getD t k 0) 65535 e
 pub blank-no : (t : List ℕ) (k : ℕ) → getD t k 0 ≢ 65535 → blankAt t k ≡ false
 unfolding blankAt
 blank-no t k e = ne-eqb (getD t k 0) 65535 e
-
--- tests that agree below a bound
-below-same : (k : ℕ) (f g : ℕ → Bool) → ((i : ℕ) → i < k → f i ≡ g i) → allBelow k f ≡ allBelow k g
-unfolding allBelow
-below-same zero f g h = refl
-below-same (suc k) f g h = rw (h k (omega arith), below-same k f g (λ i l. h i (omega arith)))
 
 -- a test below a + b is the test of the b numbers from a on and the one below a
 below-split : (a b : ℕ) (f : ℕ → Bool) → allBelow (a + b) f ≡ (allBelow b (λ k. f (a + k)) && allBelow a f)

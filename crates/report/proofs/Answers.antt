@@ -16,11 +16,11 @@ use Rattle.rules.specs.Lists.{first}
 use Rattle.rules.specs.Map.{mark, blank, allRanks, reaches, Valid, Limits}
 use Rattle.rules.specs.Check.{Verdict, refuseIf, unreached, verdict, workAfter, checkAnswerOf, checkAnswer, checkWork}
 use Rattle.rules.specs.Report.{cellCounts, freePairs, orientable, reportAnswerOf, reportAnswer, reportWorkAfter, reportWork}
-use Rattle.rules.proofs.Lists.{not-both, first-before, getD-any}
+use Rattle.rules.proofs.Lists.{not-both, first-before, getD-any, first-same}
 use Rattle.rules.proofs.Orbits.{Closed, valid-closed, reaches-reached, reached-reaches}
 use Rattle.rules.proofs.Check.{Case, Passes, refused-case, refused-some, fine-passes}
 use Rattle.walk.specs.Numbers.{numberless, misfitOf, misbuiltOf}
-use Rattle.walk.proofs.Verdicts.{first-same, check-sizes, check-limits, check-tables, check-valid, tabled-on}
+use Rattle.walk.proofs.Verdicts.{check-sizes, check-limits, check-tables, check-valid, tabled-on}
 use Rattle.report.specs.Answer.{refusalOf, countedOf}
 use Rattle.report.specs.Flood.{Spanned, AllMarked}
 use Rattle.report.proofs.Floods.{linked-reached}
