@@ -1,5 +1,5 @@
-// The writer: the check, which numbers the darts, then a replay of the walk that puts the symbols' bits and so comes to
-// the stream's length.
+// The writer: the check, which numbers the darts, then a replay of the walk that puts the symbols' bits and so comes
+// to the stream's length.
 use pen::Pen;
 use rules::WriteAnswer;
 ghost use mathlib.Core.Path.{_≡_};
@@ -63,13 +63,14 @@ pub fn put_symbols(
     let mut r = Replay { count: 1, pen };
     let mut j = 0;
     while j <= dim {
-        let old = r;
-        if old.count <= positions[j] {
+        let count = r.count;
+        if count <= positions[j] {
             j += 1;
         } else {
-            r = replay_step(tables, work, &mut positions, dim, darts, j, old, start, out);
+            r = replay_step(tables, work, &mut positions, dim, darts, j, r, start, out);
+            let next = r.count;
             // a new dart enters L0, so the lowest queue is looked for from there again
-            if r.count != old.count {
+            if next != count {
                 j = 0;
             }
         }
