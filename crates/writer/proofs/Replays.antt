@@ -2,15 +2,14 @@
 -- by just that. Rests on the numbering's laws (walk: Laws, Rooms, Going).
 use Prim.Native.Nat.{ℕ, zero, suc, _+_, _*_, _-_, _≤_, _<_}
 use mathlib.Core.Path.{_≡_, refl, ap, sym, _∙_}
-use mathlib.Core.Logic.{_≢_}
 use mathlib.Core.Bool.{Bool, true, false, cond}
 use mathlib.Core.List.{List, [], _∷_, _++_, append-assoc, append-nil}
 use native.Mathlib.Omega.{arith}
-use native.Mathlib.Decide.{ℕ-discrete, decLt}
-use lib.ListN.{length, getD, set, drop, length-append, List·getD-append, length-set}
-use lib.Seq.{getD-append-add, getD-set-same, getD-set-other}
+use native.Mathlib.Decide.{decLt}
+use lib.ListN.{length, getD, length-append, List·getD-append}
+use lib.Seq.{getD-append-add}
 use lib.Dec.{eqb, leb}
-use borrow.Author.Tests.{eqb-true, eq-eqb, ne-eqb, lt-ltb, leb-false, le-ltb}
+use borrow.Author.Tests.{lt-ltb, leb-false, le-ltb}
 use Rattle.walk.specs.declared.Output.{Output}
 use Rattle.pen.specs.declared.Pen.{Pen}
 use Rattle.rules.specs.Lists.{listOf, number, sum}
@@ -19,14 +18,14 @@ use Rattle.rules.specs.Walk.{Walk, Head, head, Partner, partner, Symbol, enough
 use Rattle.rules.specs.Check.{numbering}
 use Rattle.rules.specs.Stream.{codes}
 use Rattle.rules.proofs.Lists.{length-listOf, getD-listOf}
+use Rattle.rules.proofs.Lowest.{Emptied}
 use Rattle.rules.proofs.Runs.{codes-append}
 use Rattle.rules.proofs.Names.{name, room}
 use Rattle.rules.proofs.Numbering.{name-number, name-below, names-all}
 use Rattle.rules.proofs.Streams.{symbols-few}
-use Rattle.walk.specs.Numbers.{numberIn, dartIn, writesBy, writesIn, countAfter, lowestFrom}
+use Rattle.walk.specs.Numbers.{numberIn, dartIn, writesBy, writesIn, countAfter, positionsAfter}
 use Rattle.walk.proofs.Laws.{Agrees, symbolsFor}
-use Rattle.rules.proofs.Ends.{position-end, positions-moved, positions-kept, Emptied, emptied-none}
-use Rattle.walk.proofs.Going.{Numbering, Going, going-own, going-start, going-start-left, going-onward, going-same, going-over, going-heads, going-less}
+use Rattle.walk.proofs.Going.{Numbering, Going, Lowest, going-own, going-start, going-start-left, going-onward, going-same, going-over, going-heads, going-less}
 use Rattle.pen.specs.Pens.{PenFits, Put, IndexFits}
 use Rattle.pen.proofs.Laws.{put-none, put-both}
 use Rattle.writer.specs.declared.Replay.{Replay}
@@ -191,132 +190,74 @@ module _ (N n : ℕ) (m : List ℕ) (root : ℕ) (h6 : N ≤ 6) (hn : n ≤ 4096
   }
 
   module _ {c : ℕ} {ps : List ℕ} {r : Pen} {o : List ℕ} (R : Replaying N n m root work from c ps pen r out o) where
-    same-lowest : lowestFrom (N + 1) 0 c ps ≡ lowestFrom (N + 1) 0 (R .numbering' .count) (R .numbering' .positions)
-    same-lowest = rw (R .count, R .positions)
-
     agrees-now : Agrees n (R .going .names) work
     agrees-now =
         let (rest, e) = write-more (enough N n - R .going .done) m (R .going .walk) (R .going .names) in
         front-agrees N n m root h6 hn hr A work Q (R .going .names) rest (unfold full in sym (R .going .ends) ∙ e)
-
-    -- a turn writes what the numbering wrote
-    same-output : (j : ℕ) → lowestFrom (N + 1) 0 c ps ≡ j → j ≤ N
-        → writesIn N n m work c j (getD ps j 0) ≡ writesIn N n m (R .room) (R .numbering' .count) j (getD (R .numbering' .positions) j 0)
-    same-output j e hj = rw (R .count, R .positions) (going-same N n m root h6 hn hr A work (R .going) work agrees-now j (sym same-lowest ∙ e) hj)
-
-    on-rank : (j : ℕ) → lowestFrom (N + 1) 0 c ps ≡ j → lowestFrom (N + 1) 0 (R .numbering' .count) (R .numbering' .positions) ≡ j
-    on-rank j e = sym same-lowest ∙ e
-
-    -- all within the room
-    pub replay-heads : (j : ℕ) → lowestFrom (N + 1) 0 c ps ≡ j → j ≤ N → (getD ps j 0 < n) × (c ≤ n)
-    replay-heads j e hj =
-        let h = going-heads N n m root h6 hn hr A work (R .going) j (on-rank j e) hj in
-        rw (R .count, R .positions) ((h .position, h .count))
-
-    pub replay-index : (j : ℕ) → c ≤ 4096 → IndexFits (writesIn N n m work c j (getD ps j 0))
-    unfolding writesIn
-    replay-index j h = index-below _ _ _ (leb c (numberIn n work (link N n m j (dartIn n work (getD ps j 0))))) _ _ c refl h
 
     pub replay-fits : PenFits 401422 pen → PenFits 14 r
     replay-fits h =
         let l : length (R .bits) + 14 ≤ 401422 = omega (arith, simp length-append at (ap length (R .left)), symbols-few N n m root h6 hn hr A) in
         R .put .fits 14 (record { room = omega (arith, h .room); inByte = h .inByte; holds = h .holds })
 
-    pub replay-less : (j : ℕ) → lowestFrom (N + 1) 0 c ps ≡ j → j ≤ N → enough N n - sum (set ps j (getD ps j 0 + 1)) < enough N n - sum ps
-    replay-less j e hj = rw (R .positions) (going-less N n m root h6 hn hr A work (R .going) j (on-rank j e) hj)
-
-    -- the head's dart and its own number
-    pub replay-own : (j : ℕ) → lowestFrom (N + 1) 0 c ps ≡ j → j ≤ N → (dartIn n work (getD ps j 0) < n) × (numberIn n work (dartIn n work (getD ps j 0)) ≡ getD ps j 0)
-    replay-own j e hj = rw (R .positions) (going-own N n m root h6 hn hr A work (R .going) work agrees-now j (on-rank j e) hj)
-
-    -- the turn itself
-    pub replay-goes : (j : ℕ) → lowestFrom (N + 1) 0 c ps ≡ j → j ≤ N → {q : Pen} {o' : List ℕ} → let s = writesIn N n m work c j (getD ps j 0) in
-        Put (codes (symbolsFor s)) from r q o o' → Replaying N n m root work from (countAfter s c) (set ps j (getD ps j 0 + 1)) pen q out o'
-    replay-goes j e hj {q} {o'} x =
-        let s = writesIn N n m work c j (getD ps j 0) in
-        let z = writesIn N n m (R .room) (R .numbering' .count) j (getD (R .numbering' .positions) j 0) in
-        let y = going-onward N n m root h6 hn hr A work (R .going) j (on-rank j e) hj in
-        let f : s ≡ z = same-output j e hj in
-        record {
-          numbering' = _;
-          room = _;
-          going = y .going;
-          count = ap (countAfter s) (R .count) ∙ ap (λ (a : Output). countAfter a (R .numbering' .count)) f;
-          positions = ap (λ (l : List ℕ). set l j (getD l j 0 + 1)) (R .positions);
-          bits = R .bits ++ codes (symbolsFor s);
-          put = put-both (R .put) x;
-          left = left-next (R .bits) s z _ _ (symbolsOf N n m root) f (y .left) (R .left);
-        }
-
-    -- the end: all symbols were put
-    pub replay-ends : N < lowestFrom (N + 1) 0 c ps → Put (codes (symbolsOf N n m root)) from pen r out o
-    replay-ends h =
-        let q = going-over N n m root h6 hn hr A work (R .going) (rw same-lowest at h) in
+    -- the end, where all queues are empty: all symbols were put
+    pub replay-ends : (j : ℕ) → Emptied c ps j → N < j → Put (codes (symbolsOf N n m root)) from pen r out o
+    replay-ends j E h =
+        let q = going-over N n m root h6 hn hr A work (R .going) j (rw (R .count, R .positions) at E) h in
         rw (← left-none (R .bits) _ (symbolsOf N n m root) (ap (λ (x : Walked). x .symbols) q) (R .left)) (R .put)
 
--- a step of the code, over what its calls answered: k is the count after it
-pub rank-new : (k c j : ℕ) → k ≢ c → 0 ≡ cond (eqb k c) j 0
-rank-new k c j h = rw (ne-eqb k c h)
+    -- a turn at the lowest queue that isn't empty
+    module _ (j : ℕ) (e : Lowest N c ps j) where
+      lowest-there : Lowest N (R .numbering' .count) (R .numbering' .positions) j
+      lowest-there = rw (R .count, R .positions) at e
 
-pub rank-old : (k c j : ℕ) → k ≡ c → j ≡ cond (eqb k c) j 0
-rank-old k c j h = rw (eq-eqb k c h)
+      -- it writes what the numbering wrote
+      same-output : writesIn N n m work c j (getD ps j 0) ≡ writesIn N n m (R .room) (R .numbering' .count) j (getD (R .numbering' .positions) j 0)
+      same-output = rw (R .count, R .positions) (going-same N n m root h6 hn hr A work (R .going) work agrees-now j lowest-there)
 
-pub replayed-by : (N n : ℕ) (t work ends : List ℕ) (j start : ℕ) (pen : Pen) (q : Replay) (c k : ℕ) (s : Output) {out out' : List ℕ} → c ≡ getD ends 0 0 → s ≡ writesIn N n t work c j (getD ends (j + 1) 0) → k ≡ countAfter s c
-    → Put (codes (symbolsFor s)) start pen (q .pen) out out' → q .rank ≡ cond (eqb k c) j 0
-    → Replayed (writesIn N n t work (getD ends 0 0) j (getD ends (j + 1) 0)) j start pen q ends (set (set ends (j + 1) (getD ends (j + 1) 0 + 1)) 0 k) out out'
-replayed-by N n t work ends j start pen q c k s ec es ek x er =
-    record { rank = rw (← ec, ← es, ← ek) er; after = rw (← ec, ← es, ← ek); put = rw (← ec, ← es) x }
+      -- all that a step asks
+      pub replay-asks : 2 * n ≤ length work → PenFits 401422 pen → Replays N n m work c j (getD ps j 0) r
+      unfolding writesIn
+      replay-asks hw f =
+          let h = going-heads N n m root h6 hn hr A work (R .going) j lowest-there in
+          let (d, o) = going-own N n m root h6 hn hr A work (R .going) work agrees-now j lowest-there in
+          let x = link N n m j (dartIn n work (getD ps j 0)) in
+          let l : c ≤ 4096 = omega (arith, R .count, h .count) in
+          record {
+            position = rw (R .positions) (h .position);
+            count = l;
+            room = hw;
+            dart = rw (R .positions) d;
+            own = rw (R .positions) (omega arith);
+            fits = replay-fits f;
+            index = index-below _ _ _ (leb c (numberIn n work x)) _ _ c refl l;
+          }
+
+      -- each turn brings the replay nearer to its end
+      pub replay-less : enough N n - sum (positionsAfter j ps) < enough N n - sum ps
+      replay-less = rw (R .positions) (going-less N n m root h6 hn hr A work (R .going) j lowest-there)
+
+      -- the turn itself
+      pub replay-goes : {q : Pen} {o' : List ℕ} → let s = writesIn N n m work c j (getD ps j 0) in
+          Put (codes (symbolsFor s)) from r q o o' → Replaying N n m root work from (countAfter s c) (positionsAfter j ps) pen q out o'
+      replay-goes {q} {o'} x =
+          let s = writesIn N n m work c j (getD ps j 0) in
+          let y = going-onward N n m root h6 hn hr A work (R .going) j lowest-there in
+          record {
+            numbering' = _;
+            room = _;
+            going = y .going;
+            count = ap (countAfter s) (R .count) ∙ ap (λ (a : Output). countAfter a (R .numbering' .count)) same-output;
+            positions = ap (positionsAfter j) (R .positions);
+            bits = R .bits ++ codes (symbolsFor s);
+            put = put-both (R .put) x;
+            left = left-next (R .bits) s _ _ _ (symbolsOf N n m root) same-output (y .left) (R .left);
+          }
+
+-- a step of the code, over what its calls answered
+pub replayed-by : (N n : ℕ) (t work ps : List ℕ) (j start : ℕ) (old q : Replay) (s : Output) {out out' : List ℕ} → let z = writesIn N n t work (old .count) j (getD ps j 0) in
+    s ≡ z → q .count ≡ countAfter s (old .count) → Put (codes (symbolsFor s)) start (old .pen) (q .pen) out out' → Replayed z j start old q ps (positionsAfter j ps) out out'
+replayed-by N n t work ps j start old q s es ek x = record { left = refl; count = rw (← es) ek; put = rw (← es) x }
 
 pub index-by : (s z : Output) → s ≡ z → IndexFits z → IndexFits s
 index-by s z e h = rw e h
-
--- the ends after a step: the count, then the positions
-abbrev pub moved : ℕ → ℕ → ℕ → List ℕ → List ℕ
-moved j v c ends = set (set ends (j + 1) v) 0 c
-
-module _ (ends : List ℕ) (j v c : ℕ) (some : 0 < length ends) where
-  pub moved-count : getD (moved j v c ends) 0 0 ≡ c
-  moved-count = getD-set-same (set ends (j + 1) v) 0 c 0 (omega (arith, length-set ends (j + 1) v))
-
-  pub moved-positions : drop 1 (moved j v c ends) ≡ set (drop 1 ends) j v
-  moved-positions = positions-kept (set ends (j + 1) v) c ∙ positions-moved ends j v
-
-  -- the queues below the rank to go on at are empty
-  pub moved-emptied : (b : Bool) → eqb c (getD ends 0 0) ≡ b → Emptied ends j → Emptied (moved j v c ends) (cond b j 0)
-  moved-emptied false q E = emptied-none _
-  moved-emptied true q E = record { lower = λ i l. go i l (ℕ-discrete i 0) }
-    where
-      later : (i : ℕ) → i ≤ j → i ≢ 0 → getD (moved j v c ends) i 0 ≡ getD ends i 0
-      later i h z = getD-set-other (set ends (j + 1) v) 0 i c 0 z ∙ getD-set-other ends (j + 1) i v 0 (omega arith)
-
-      go : (i : ℕ) → i < j → Dec (i ≡ 0) → getD (moved j v c ends) i 0 ≤ getD (moved j v c ends) (i + 1) 0
-      go i l (yes e) = rw e (rw (moved-count, later 1 (omega arith) (omega arith), eqb-true c (getD ends 0 0) q) (E .lower 0 (omega arith)))
-      go i l (no e) = rw (later i (omega arith) e, later (i + 1) (omega arith) (omega arith)) (E .lower i l)
-
--- the replay over ends
-module _ (N n : ℕ) (m : List ℕ) (root : ℕ) (h6 : N ≤ 6) (hn : n ≤ 4096) (hr : root < n) (A : Valid N n m) (work : List ℕ) (Q : NumberedFrom N n m root work) (from : ℕ) (pen : Pen) (out ends : List ℕ)
-    {r : Pen} {o : List ℕ} (R : Replaying N n m root work from (getD ends 0 0) (drop 1 ends) pen r out o) (j : ℕ) (e : lowestFrom (N + 1) 0 (getD ends 0 0) (drop 1 ends) ≡ j) (hj : j ≤ N) where
-  pub replay-asks : 2 * n ≤ length work → PenFits 401422 pen → Replays N n m work ends j r
-  replay-asks hw f =
-      let (p, c) = replay-heads N n m root h6 hn hr A work Q from pen out R j e hj in
-      let (d, o) = rw (position-end ends j) at (replay-own N n m root h6 hn hr A work Q from pen out R j e hj) in
-      record {
-        position = omega (arith, position-end ends j);
-        count = omega arith;
-        room = hw;
-        dart = d;
-        own = omega arith;
-        fits = replay-fits N n m root h6 hn hr A work Q from pen out R f;
-        index = rw (position-end ends j) at (replay-index N n m root h6 hn hr A work Q from pen out R j (omega arith));
-      }
-
-  module _ (some : 0 < length ends) where
-    pub replay-moves : {q : Pen} {o' : List ℕ} → let s = writesIn N n m work (getD ends 0 0) j (getD ends (j + 1) 0) in Put (codes (symbolsFor s)) from r q o o'
-        → let ends' = moved j (getD ends (j + 1) 0 + 1) (countAfter s (getD ends 0 0)) ends in Replaying N n m root work from (getD ends' 0 0) (drop 1 ends') pen q out o'
-    replay-moves {q} {o'} x =
-        let s = writesIn N n m work (getD ends 0 0) j (getD ends (j + 1) 0) in
-        rw (moved-count ends j (getD ends (j + 1) 0 + 1) (countAfter s (getD ends 0 0)) some, moved-positions ends j (getD ends (j + 1) 0 + 1) (countAfter s (getD ends 0 0)) some)
-        (rw (position-end ends j) at (replay-goes N n m root h6 hn hr A work Q from pen out R j e hj {q = q} {o' = o'} (rw (position-end ends j) x)))
-
-    pub replay-nearer : (c : ℕ) → enough N n - sum (drop 1 (moved j (getD ends (j + 1) 0 + 1) c ends)) < enough N n - sum (drop 1 ends)
-    replay-nearer c = rw (moved-positions ends j (getD ends (j + 1) 0 + 1) c some, ← position-end ends j) (replay-less N n m root h6 hn hr A work Q from pen out R j e hj)

@@ -1,4 +1,5 @@
-// The writer: the check, which numbers the darts, then a replay of the walk that puts the symbols' bits and so comes to the stream's length.
+// The writer: the check, which numbers the darts, then a replay of the walk that puts the symbols' bits and so comes
+// to the stream's length.
 use pen::Pen;
 use rules::WriteAnswer;
 ghost use mathlib.Core.Path.{_≡_};
@@ -14,41 +15,38 @@ ghost use Rattle.walk.specs.Numbers.{writesIn};
 ghost use Rattle.pen.specs.Pens.{PenFits, Holds, Put, penned};
 ghost use Rattle.writer.specs.Replays.{Replays, Replayed, NumberedFrom};
 
-// Where the replay goes on: the rank, and the pen.
+// Where a replay stands beside its positions: how many darts are numbered, and the pen.
 pub struct Replay {
-    pub rank: usize,
+    pub count: u16,
     pub pen: Pen,
 }
 
-// One step of the replay at the head of Lj: the numbering is finished, so a dart is new exactly when its number is not below the count. A new dart leads back to rank 0.
+// One step of the replay at the head of Lj: it leaves Lj, and what the step writes is put. The numbering is finished,
+// so a dart is new exactly when its number is not below the count.
 pub fn replay_step(
     tables: &[u16],
     work: &[u16],
-    ends: &mut [u16],
+    positions: &mut [u16],
     dim: usize,
     darts: usize,
     j: usize,
-    old: Pen,
+    old: Replay,
     start: usize,
     out: &mut [u8],
 ) -> Replay
-    requires { ⌜ Limits dim darts (now tables) × Valid dim darts (now tables) × (j ≤ dim) × (length (now ends) ≡ 8) × Replays dim darts (now tables) (now work) (now ends) j old ⌝ }
-    ensures { λ q. ⌜ Replayed (writesIn dim darts (now (tables .entry)) (now (work .entry)) (getD (now (ends .entry)) 0 0) j (getD (now (ends .entry)) (j + 1) 0)) j start old q (now (ends .entry)) (now (ends .exit)) (now (out .entry)) (now (out .exit)) ⌝ }
+    requires { ⌜ Limits dim darts (now tables) × Valid dim darts (now tables) × (j ≤ dim) × (length (now positions) ≡ 7) × Replays dim darts (now tables) (now work) (old .count) j (getD (now positions) j 0) (old .pen) ⌝ }
+    ensures { λ q. ⌜ Replayed (writesIn dim darts (now (tables .entry)) (now (work .entry)) (old .count) j (getD (now (positions .entry)) j 0)) j start old q (now (positions .entry)) (now (positions .exit)) (now (out .entry)) (now (out .exit)) ⌝ }
 {
-    let position = ends[j + 1];
-    ends[j + 1] = position + 1;
-    let count = ends[0];
-    let s = walk::writes(tables, work, dim, darts, count, j, position);
-    let next = walk::count_after(s, count);
-    ends[0] = next;
-    let pen = pen::put_symbol(old, s, start, out);
-    if next != count {
-        return Replay { rank: 0, pen };
-    }
-    Replay { rank: j, pen }
+    let position = positions[j];
+    positions[j] = position + 1;
+    let s = walk::writes(tables, work, dim, darts, old.count, j, position);
+    let count = walk::count_after(s, old.count);
+    let pen = pen::put_symbol(old.pen, s, start, out);
+    Replay { count, pen }
 }
 
-// The symbols of the whole walk. Lj holds the numbers from ends[j + 1] up to ends[j], and ends[0] is the count.
+// The symbols of the whole walk. Positions say how many darts have left each queue. The queues below Lj are empty, so
+// Lj holds the numbers from position j up to the count.
 pub fn put_symbols(
     tables: &[u16],
     work: &[u16],
@@ -61,16 +59,20 @@ pub fn put_symbols(
     requires { ⌜ Limits dim darts (now tables) × Valid dim darts (now tables) × (2 * darts ≤ length (now work)) × PenFits 401422 pen × ((root : ℕ) × NumberedFrom dim darts (now tables) root (now work)) ⌝ }
     ensures { λ q. ⌜ ((root : ℕ) → NumberedFrom dim darts (now (tables .entry)) root (now (work .entry)) → Put (codes (symbolsOf dim darts (now (tables .entry)) root)) start pen q (now (out .entry)) (now (out .exit))) ⌝ }
 {
-    let mut ends = [0u16; 8];
-    ends[0] = 1;
-    let mut r = Replay { rank: 0, pen };
-    while r.rank <= dim {
-        let j = r.rank;
-        let old = r.pen;
-        if ends[j] <= ends[j + 1] {
-            r.rank = j + 1;
+    let mut positions = [0u16; 7];
+    let mut r = Replay { count: 1, pen };
+    let mut j = 0;
+    while j <= dim {
+        let count = r.count;
+        if count <= positions[j] {
+            j += 1;
         } else {
-            r = replay_step(tables, work, &mut ends, dim, darts, j, old, start, out);
+            r = replay_step(tables, work, &mut positions, dim, darts, j, r, start, out);
+            let next = r.count;
+            // a new dart enters L0, so the lowest queue is looked for from there again
+            if next != count {
+                j = 0;
+            }
         }
     }
     let last = r.pen;
