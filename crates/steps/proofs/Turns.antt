@@ -36,7 +36,7 @@ use Rattle.steps.specs.declared.Signal.the-variants.{More, Ended, Waits,
 use Rattle.steps.specs.declared.Case.{Case}
 use Rattle.steps.specs.declared.Case.the-variants.{Known, Deduced, Asked}
 use Rattle.steps.specs.Partners.{looking, toldPartner}
-use Rattle.steps.specs.Turns.{walkAt, signalStep, toldStep, tablesJoined, mayName, standOf, Lowest, Tied, Ready, Served, Taking, Turns}
+use Rattle.steps.specs.Turns.{walkAt, signalStep, toldStep, mayName, standOf, Lowest, Tied, Ready, Served, Taking, Turns}
 use Rattle.steps.proofs.Partners.{partner-looking}
 
 -- a link's place is within the tables
