@@ -42,61 +42,61 @@ loop-less c = omega arith
 
 loop-again : tie.Need-loop-again Inv-loop μ-loop
 loop-again c =
-    let l = c .before .before .before .loop in
+    let l = c .before .before .loop in
     (l .inv .0, l .inv .1, omega arith, emptied-next (l .r .count) (l .positions) (l .j) (l .inv .3) (c .if1 .taken), l .inv .4)
 
 slice-aggregate-replay-step : tie.Need-slice-aggregate-replay-step Inv-loop μ-loop
 slice-aggregate-replay-step c = search needs
 
 -- a step is made where Lj is the lowest queue that isn't empty
-served : (c : tie.After-replay-step-arg Inv-loop μ-loop) → let l = c .before .before .before .before .before .loop in Lowest (c .before .before .before .before .before .before .before .before .before .args .dim) (l .r .count) (l .positions) (l .j)
-served c = record { ranked = omega arith; lower = c .before .before .before .before .before .loop .inv .3; some = c .before .before .if1 .left }
+served : (c : tie.After-replay-step-arg Inv-loop μ-loop) → let l = c .before .before .before .before .loop in Lowest (c .before .before .before .before .before .before .before .before .args .dim) (l .r .count) (l .positions) (l .j)
+served c = record { ranked = omega arith; lower = c .before .before .before .before .loop .inv .3; some = c .before .before .if1 .left }
 
 replay-step-requires : tie.Need-replay-step-requires Inv-loop μ-loop
 replay-step-requires c κs =
+    let s = c .before .before .before .before .before .before .before .before in
+    let a = s .args in
+    let q = s .pre .4 .1 in
+    let l = c .before .before .before .before .loop in
+    let R = l .inv .4 (s .pre .4 .0) q in
+    (s .pre .0, s .pre .1, omega arith, l .inv .1, replay-asks (a .dim) (a .darts) (a .tables .now) _ (omega arith) (omega arith) (q .connected .rooted) (s .pre .1) (a .work .now) q (a .start) _ _ R (l .j) (served c) (s .pre .2) (s .pre .3))
+
+-- it brings the replay nearer to its end
+nearer : (c : tie.After-replay-step Inv-loop μ-loop) → let a = c .before .before .before .before .before .before .before .before .before .args in
+    enough (a .dim) (a .darts) - sum (c .replay-step .last .1 .1 .0) < enough (a .dim) (a .darts) - sum (c .before .before .before .before .before .loop .positions)
+nearer c =
     let s = c .before .before .before .before .before .before .before .before .before in
     let a = s .args in
     let q = s .pre .4 .1 in
     let l = c .before .before .before .before .before .loop in
     let R = l .inv .4 (s .pre .4 .0) q in
-    (s .pre .0, s .pre .1, omega arith, l .inv .1, replay-asks (a .dim) (a .darts) (a .tables .now) _ (omega arith) (omega arith) (q .connected .rooted) (s .pre .1) (a .work .now) q (a .start) _ _ R (l .j) (served c) (s .pre .2) (s .pre .3))
-
--- it brings the replay nearer to its end
-nearer : (c : tie.After-replay-step Inv-loop μ-loop) → let a = c .before .before .before .before .before .before .before .before .before .before .args in
-    enough (a .dim) (a .darts) - sum (c .replay-step .last .1 .1 .0) < enough (a .dim) (a .darts) - sum (c .before .before .before .before .before .before .loop .positions)
-nearer c =
-    let s = c .before .before .before .before .before .before .before .before .before .before in
-    let a = s .args in
-    let q = s .pre .4 .1 in
-    let l = c .before .before .before .before .before .before .loop in
-    let R = l .inv .4 (s .pre .4 .0) q in
     rw (c .replay-step .ensures .left) (replay-less (a .dim) (a .darts) (a .tables .now) _ (omega arith) (omega arith) (q .connected .rooted) (s .pre .1) (a .work .now) q (a .start) _ _ R (l .j) (served (c .before)))
 
 -- and goes beside the numbering
-goes : (c : tie.After-replay-step Inv-loop μ-loop) → let a = c .before .before .before .before .before .before .before .before .before .before .args in let k = c .replay-step in
+goes : (c : tie.After-replay-step Inv-loop μ-loop) → let a = c .before .before .before .before .before .before .before .before .before .args in let k = c .replay-step in
     (root : ℕ) → NumberedFrom (a .dim) (a .darts) (a .tables .now) root (a .work .now)
     → Replaying (a .dim) (a .darts) (a .tables .now) root (a .work .now) (a .start) (k .result .count) (k .last .1 .1 .0) (a .pen) (k .result .pen) (a .out .now) (k .last .1 .1 .1 .1 .1 .1 .1 .1 .0)
 goes c root q =
-    let s = c .before .before .before .before .before .before .before .before .before .before in
+    let s = c .before .before .before .before .before .before .before .before .before in
     let a = s .args in
-    let l = c .before .before .before .before .before .before .loop in
+    let l = c .before .before .before .before .before .loop in
     let k = c .replay-step .ensures in
     rw (k .left, k .count) (replay-goes (a .dim) (a .darts) (a .tables .now) _ (omega arith) (omega arith) (q .connected .rooted) (s .pre .1) (a .work .now) q (a .start) _ _ (l .inv .4 root q) (l .j) (served (c .before)) (k .put))
 
 loop-less-2 : tie.Need-loop-less-2 Inv-loop μ-loop
-loop-less-2 c = omega (arith, nearer (c .before .before .before .before .before .before))
+loop-less-2 c = omega (arith, nearer (c .before .before .before .before))
 
 loop-again-2 : tie.Need-loop-again-2 Inv-loop μ-loop
-loop-again-2 c = (search needs, search needs, omega arith, emptied-none _ _, goes (c .before .before .before .before .before .before))
+loop-again-2 c = (search needs, search needs, omega arith, emptied-none _ _, goes (c .before .before .before .before))
 
 loop-less-3 : tie.Need-loop-less-3 Inv-loop μ-loop
-loop-less-3 c = omega (arith, nearer (c .before .before .before .before .before .before))
+loop-less-3 c = omega (arith, nearer (c .before .before .before .before))
 
 loop-again-3 : tie.Need-loop-again-3 Inv-loop μ-loop
 loop-again-3 c =
-    let l = c .before .before .before .before .before .before .before .before .before .before .before .before .loop in
-    let k = c .before .before .before .before .before .before .replay-step .ensures in
-    (search needs, search needs, l .inv .2, rw (k .left) (emptied-after (l .r .count) _ (l .positions) (l .j) (l .inv .3) (c .if2 .left)), goes (c .before .before .before .before .before .before))
+    let l = c .before .before .before .before .before .before .before .before .before .loop in
+    let k = c .before .before .before .before .replay-step .ensures in
+    (search needs, search needs, l .inv .2, rw (k .left) (emptied-after (l .r .count) _ (l .positions) (l .j) (l .inv .3) (c .if2 .left)), goes (c .before .before .before .before))
 
 same-length : tie.Need-same-length Inv-loop μ-loop
 same-length c = search needs
