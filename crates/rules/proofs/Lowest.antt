@@ -30,6 +30,12 @@ emptied-next c ps j E q = record { lower = λ i h. go i h (ℕ-discrete i j) }
 pub emptied-passed : (c : ℕ) (ps : List ℕ) (j v : ℕ) → Emptied c ps j → Emptied c (set ps j v) j
 emptied-passed c ps j v E = record { lower = λ i h. rw (getD-set-other ps j i v 0 (omega arith)) (E .lower i h) }
 
+-- Lj is the lowest queue that isn't empty
+pub record Lowest (N count : ℕ) (positions : List ℕ) (j : ℕ) : Type 0 where
+  pub ranked : j ≤ N
+  pub lower : Emptied count positions j
+  pub some : getD positions j 0 < count
+
 -- the head of the queues: of Lj where those below are empty and Lj isn't, and none where all are empty
 module _ (w : Walk) (s : Shape w) (j : ℕ) (E : Emptied (w .count) (w .positions) j) where
   pub head-lowest : j ≤ w .dim → getD (w .positions) j 0 < w .count → head w ≡ Head.at j (getD (w .positions) j 0)

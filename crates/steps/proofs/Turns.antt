@@ -20,7 +20,7 @@ use Rattle.rules.specs.declared.WalkNo.{WalkNo}
 use Rattle.rules.proofs.Lists.{and-left}
 use Rattle.rules.proofs.Places.{place-below}
 use Rattle.rules.proofs.Positions.{Shape}
-use Rattle.rules.proofs.Lowest.{Emptied, head-lowest, head-past}
+use Rattle.rules.proofs.Lowest.{Emptied, Lowest, head-lowest, head-past}
 use Rattle.rules.proofs.Walks.{Inv, start-inv, next-of, deduced-below}
 use Rattle.rules.proofs.Moves.{Move, moved, see-deduced, step-move}
 use Rattle.rules.proofs.Readings.{Asks}
@@ -36,7 +36,7 @@ use Rattle.steps.specs.declared.Signal.the-variants.{More, Ended, Waits,
 use Rattle.steps.specs.declared.Case.{Case}
 use Rattle.steps.specs.declared.Case.the-variants.{Known, Deduced, Asked}
 use Rattle.steps.specs.Partners.{looking, toldPartner}
-use Rattle.steps.specs.Turns.{walkAt, signalStep, toldStep, mayName, standOf, Lowest, Tied, Ready, Served, Taking, Turns}
+use Rattle.steps.specs.Turns.{walkAt, signalStep, toldStep, mayName, standOf, Tied, Ready, Served, Taking, Turns}
 use Rattle.steps.proofs.Partners.{partner-looking}
 
 -- a link's place is within the tables
@@ -222,14 +222,14 @@ module _ {N n k : ℕ} {ps : List ℕ} {c : Cursor} {t page : List ℕ} (y : Rea
       go (inl q) = q
       go (inr a) = let e = o in let q = a .next in let z : _≡_ {A = ℕ} 0 1 = cc in absurd (omega arith)
 
-  module _ {j : ℕ} (low : Lowest k ps j) (hj : j ≤ N) where
+  module _ {j : ℕ} (low : Lowest N k ps j) where
     -- the head of Lj
     abbrev b : ℕ
     b = getD ps j 0
 
     heads : head (walkAt N n (standOf k ps) t) ≡ Head.at j b
     unfolding walkAt
-    heads = head-lowest (walkAt N n (standOf k ps) t) (y .inv .shape) j (low .emptied) hj (low .filled)
+    heads = head-lowest (walkAt N n (standOf k ps) t) (y .inv .shape) j (low .lower) (low .ranked) (low .some)
 
     pub served : Served N n k ps t j (getD ps j 0)
     unfolding walkAt
@@ -238,10 +238,10 @@ module _ {N n k : ℕ} {ps : List ℕ} {c : Cursor} {t page : List ℕ} (y : Rea
       heads = heads;
       limits = ready-limits N n (standOf k ps) c t page y;
       seven = ready-seven;
-      emptied = low .emptied;
-      ranked = hj;
+      emptied = low .lower;
+      ranked = low .ranked;
       first = refl;
-      below = low .filled;
+      below = low .some;
       within = y .inv .shape .within;
     }
 

@@ -72,11 +72,6 @@ standOf k ps = record { count = k; positions = ps }
 abbrev pub turnedAt : Outcome → List ℕ → Turned
 turnedAt r ps = record { stand = standOf (r .count) ps; cursor = r .cursor; signal = r .signal }
 
--- Lj is the lowest queue that isn't empty
-pub record Lowest (k : ℕ) (ps : List ℕ) (j : ℕ) : Type 0 where
-  pub emptied : Emptied k ps j
-  pub filled : getD ps j 0 < k
-
 -- aj(b) = e was made known, and b has left Lj
 pub record Tied (N n : ℕ) (ps t : List ℕ) (j b e : ℕ) (ps' t' : List ℕ) : Type 0 where
   pub positions : ps' ≡ set ps j (b + 1)

@@ -11,9 +11,9 @@ ghost use lib.Dec.{ltb};
 ghost use Rattle.rules.specs.Map.{Limits, link};
 ghost use Rattle.rules.specs.Walk;
 ghost use Rattle.symbols.specs.Cursors.{CursorFits, PastSymbol};
-ghost use Rattle.rules.proofs.Lowest.{Emptied};
+ghost use Rattle.rules.proofs.Lowest.{Emptied, Lowest};
 ghost use Rattle.steps.specs.Partners.{looking, toldPartner};
-ghost use Rattle.steps.specs.Turns.{walkAt, tablesJoined, mayName, standOf, turnedAt, Lowest, Tied, Ready, Served, Taking, Turns, Runs};
+ghost use Rattle.steps.specs.Turns.{walkAt, tablesJoined, mayName, standOf, turnedAt, Tied, Ready, Served, Taking, Turns, Runs};
 
 // Where a reading's walk stands: the darts numbered, and how many have left each queue.
 pub struct Stand {
@@ -215,7 +215,7 @@ pub fn turn(
     c: Cursor,
     page: &[u8],
 ) -> Outcome
-    requires { ⌜ Ready dim darts (standOf count (now positions)) c (now tables) (now page) × (j ≤ dim) × Lowest count (now positions) j ⌝ }
+    requires { ⌜ Ready dim darts (standOf count (now positions)) c (now tables) (now page) × Lowest dim count (now positions) j ⌝ }
     ensures { λ r. ⌜ Turns dim darts (standOf count (now (positions .entry))) c (now (tables .entry)) (now (page .entry)) (turnedAt r (now (positions .exit))) (now (tables .exit)) × Emptied (r .count) (now (positions .exit)) (r .rank) ⌝ }
 {
     let b = WalkNo(positions[j]);

@@ -18,14 +18,14 @@ use Rattle.rules.specs.Walk.{Walk, Head, head, Partner, partner, Symbol, enough
 use Rattle.rules.specs.Check.{numbering}
 use Rattle.rules.specs.Stream.{codes}
 use Rattle.rules.proofs.Lists.{length-listOf, getD-listOf}
-use Rattle.rules.proofs.Lowest.{Emptied}
+use Rattle.rules.proofs.Lowest.{Emptied, Lowest}
 use Rattle.rules.proofs.Runs.{codes-append}
 use Rattle.rules.proofs.Names.{name, room}
 use Rattle.rules.proofs.Numbering.{name-number, name-below, names-all}
 use Rattle.rules.proofs.Streams.{symbols-few}
 use Rattle.walk.specs.Numbers.{numberIn, dartIn, writesBy, writesIn, countAfter, positionsAfter}
 use Rattle.walk.proofs.Laws.{Agrees, symbolsFor}
-use Rattle.walk.proofs.Going.{Numbering, Going, Lowest, going-own, going-start, going-start-left, going-onward, going-same, going-over, going-heads, going-less}
+use Rattle.walk.proofs.Going.{Numbering, Going, going-own, going-start, going-start-left, going-onward, going-same, going-over, going-heads, going-less}
 use Rattle.pen.specs.Pens.{PenFits, Put, IndexFits}
 use Rattle.pen.proofs.Laws.{put-none, put-both}
 use Rattle.writer.specs.declared.Replay.{Replay}
@@ -195,6 +195,7 @@ module _ (N n : ℕ) (m : List ℕ) (root : ℕ) (h6 : N ≤ 6) (hn : n ≤ 4096
         let (rest, e) = write-more (enough N n - R .going .done) m (R .going .walk) (R .going .names) in
         front-agrees N n m root h6 hn hr A work Q (R .going .names) rest (unfold full in sym (R .going .ends) ∙ e)
 
+    -- the pen has room for the next code
     pub replay-fits : PenFits 401422 pen → PenFits 14 r
     replay-fits h =
         let l : length (R .bits) + 14 ≤ 401422 = omega (arith, simp length-append at (ap length (R .left)), symbols-few N n m root h6 hn hr A) in

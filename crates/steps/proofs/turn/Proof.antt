@@ -21,7 +21,7 @@ slice-read-t14 c =
 partner-requires : tie.Need-partner-requires
 partner-requires c κs =
     let p = c .before .before .before .before .before .pre in
-    (ready-limits _ _ _ _ _ _ (p .0), p .1)
+    (ready-limits _ _ _ _ _ _ (p .0), p .1 .ranked)
 
 enum-told : tie.Need-enum-told
 enum-told c = search needs
@@ -29,7 +29,7 @@ enum-told c = search needs
 passed-requires : tie.Need-passed-requires
 passed-requires c κs =
     let p = c .before .before .before .before .before .before .before .before .before .pre in
-    let v = served (p .0) (p .2) (p .1) in
+    let v = served (p .0) (p .1) in
     let l = v .limits in
     (v .seven, omega arith, omega arith)
 
@@ -42,14 +42,14 @@ enum-known-e c = search needs
 follow-requires : tie.Need-follow-requires
 follow-requires c κs =
     let p = c .before .before .before .before .before .before .before .before .before .before .pre in
-    (ready-limits _ _ _ _ _ _ (p .0), p .1)
+    (ready-limits _ _ _ _ _ _ (p .0), p .1 .ranked)
 
 tied-requires : tie.Need-tied-requires
 tied-requires c κs =
     let k = c .before .before .before .before .before .before .before in
     let p = k .before .before .before .before .before .before .before .before .pre in
-    let v = served (p .0) (p .2) (p .1) in
-    let l = deduced-small (p .0) (p .2) (p .1) _ (k .before .before .partner .ensures) _ (k .e .given .1) in
+    let v = served (p .0) (p .1) in
+    let l = deduced-small (p .0) (p .1) _ (k .before .before .partner .ensures) _ (k .e .given .1) in
     (v .limits, v .seven, v .ranked, omega arith, l)
 
 comes-to-requires-2 : tie.Need-comes-to-requires-2
@@ -68,7 +68,7 @@ by-symbol-requires : tie.Need-by-symbol-requires
 by-symbol-requires c κs =
     let k = c .before .before .before in
     let p = k .before .before .before .before .before .before .before .before .pre in
-    (served (p .0) (p .2) (p .1), asks (p .0) (p .2) (p .1) _ (k .before .before .partner .ensures) (k .enum-told2 .given .1))
+    (served (p .0) (p .1), asks (p .0) (p .1) _ (k .before .before .partner .ensures) (k .enum-told2 .given .1))
 
 same-length : tie.Need-same-length
 same-length c = search needs
@@ -82,7 +82,7 @@ returns c =
     let p = k .before .before .before .before .before .before .before .before .pre in
     let x = c .before .before .before .passed .ensures in
     rw (c .comes-to .ensures)
-    (turn-known (p .0) (p .2) (p .1) _ (k .before .before .partner .ensures) (k .enum-told .given .1) _ x, rw x (emptied-passed _ _ _ _ (p .2 .emptied)))
+    (turn-known (p .0) (p .1) _ (k .before .before .partner .ensures) (k .enum-told .given .1) _ x, rw x (emptied-passed _ _ _ _ (p .1 .lower)))
 
 same-length-3 : tie.Need-same-length-3
 same-length-3 c = search needs
@@ -98,8 +98,8 @@ returns-2 c =
     let y = k .before .before .partner .ensures in
     let x = m .tied .ensures in
     rw (c .comes-to2 .ensures) (
-      turn-tied (p .0) (p .2) (p .1) _ y _ (k .e .given .1) _ (m .before .before .before .before .before .follow .ensures) (m .before .before .before .if1 .taken) _ _ x,
-      rw (x .positions) (emptied-passed _ _ _ _ (p .2 .emptied)),
+      turn-tied (p .0) (p .1) _ y _ (k .e .given .1) _ (m .before .before .before .before .before .follow .ensures) (m .before .before .before .if1 .taken) _ _ x,
+      rw (x .positions) (emptied-passed _ _ _ _ (p .1 .lower)),
     )
 
 same-length-5 : tie.Need-same-length-5
@@ -111,7 +111,7 @@ returns-3 c =
     let p = k .before .before .before .before .before .before .before .before .pre in
     let y = k .before .before .partner .ensures in
     rw (c .comes-to3 .ensures)
-    (turn-14 (p .0) (p .2) (p .1) _ y _ (k .e .given .1) _ (c .before .before .before .follow .ensures) (c .before .if1 .left), p .2 .emptied)
+    (turn-14 (p .0) (p .1) _ y _ (k .e .given .1) _ (c .before .before .before .follow .ensures) (c .before .if1 .left), p .1 .lower)
 
 same-length-6 : tie.Need-same-length-6
 same-length-6 c = search needs
@@ -126,7 +126,7 @@ returns-4 c =
     let p = k .before .before .before .before .before .before .before .before .pre in
     let y = k .before .before .partner .ensures in
     let x = m .by-symbol .ensures in
-    (turn-asked (p .0) (p .2) (p .1) _ y (k .enum-told2 .given .1) _ (m .before .before .before .take-symbol .ensures) _ _ (x .0), x .1)
+    (turn-asked (p .0) (p .1) _ y (k .enum-told2 .given .1) _ (m .before .before .before .take-symbol .ensures) _ _ (x .0), x .1)
 
 pub turn-spec : {M : Type 1} → statement M
 turn-spec =

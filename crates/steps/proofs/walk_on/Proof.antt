@@ -47,7 +47,7 @@ loop-again c =
 turn-requires : tie.Need-turn-requires Inv-loop μ-loop
 turn-requires c κs =
     let l = c .before .before .before .before .before .loop in
-    (l .inv .0 .ready, c .before .before .before .before .loop-test .taken, record { emptied = l .inv .1; filled = c .before .before .if1 .left })
+    (l .inv .0 .ready, record { ranked = c .before .before .before .before .loop-test .taken; lower = l .inv .1; some = c .before .before .if1 .left })
 
 enum-told : tie.Need-enum-told Inv-loop μ-loop
 enum-told c = search needs
