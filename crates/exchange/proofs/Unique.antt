@@ -1,4 +1,5 @@
--- One answer, for the surface: from two numbers returned and two states of the rooms that meet the contract of a call for C, equality. Rests on the rules' Unique.
+-- One answer, for the surface: from two numbers returned and two states of the rooms that meet the contract of a call for C, equality. Rests on the rules'
+-- Unique.
 use Prim.Native.Nat.{ℕ}
 use mathlib.Core.Path.{_≡_, ap, sym, _∙_}
 use mathlib.Core.List.{List}
@@ -13,14 +14,18 @@ use Rattle.exchange.specs.Stored.{checkNumbers, writeNumbers, readNumber
 
 pub one-kz-check : (N n root : ℕ) (t work : List ℕ) (r r' : ℕ) (a a' u u' : List ℕ)
     → (r ≡ checkAnswer N n root t work .number) × (a ≡ checkNumbers (checkAnswer N n root t work)) × (u ≡ checkWork N n root t work)
-    → (r' ≡ checkAnswer N n root t work .number) × (a' ≡ checkNumbers (checkAnswer N n root t work)) × (u' ≡ checkWork N n root t work) → (r ≡ r') × (a ≡ a') × (u ≡ u')
+    → (r' ≡ checkAnswer N n root t work .number) × (a' ≡ checkNumbers (checkAnswer N n root t work)) × (u' ≡ checkWork N n root t work)
+    → (r ≡ r') × (a ≡ a') × (u ≡ u')
 one-kz-check N n root t work r r' a a' u u' (p, q, s) (p', q', s') = (one-value _ _ _ p p', one-value _ _ _ q q', one-value _ _ _ s s')
 
 pub one-kz-write : (N n root start : ℕ) (t work out : List ℕ) (r r' : ℕ) (a a' u u' o o' : List ℕ)
-    → (r ≡ writeAnswer N n root start t work out .number) × (a ≡ writeNumbers (writeAnswer N n root start t work out)) × (u ≡ writeWork N n root t work) × (o ≡ writeOut N n root start t work out)
-    → (r' ≡ writeAnswer N n root start t work out .number) × (a' ≡ writeNumbers (writeAnswer N n root start t work out)) × (u' ≡ writeWork N n root t work) × (o' ≡ writeOut N n root start t work out)
+    → (r ≡ writeAnswer N n root start t work out .number) × (a ≡ writeNumbers (writeAnswer N n root start t work out))
+    × (u ≡ writeWork N n root t work) × (o ≡ writeOut N n root start t work out)
+    → (r' ≡ writeAnswer N n root start t work out .number) × (a' ≡ writeNumbers (writeAnswer N n root start t work out))
+    × (u' ≡ writeWork N n root t work) × (o' ≡ writeOut N n root start t work out)
     → (r ≡ r') × (a ≡ a') × (u ≡ u') × (o ≡ o')
-one-kz-write N n root start t work out r r' a a' u u' o o' (p, q, s, z) (p', q', s', z') = (one-value _ _ _ p p', one-value _ _ _ q q', one-value _ _ _ s s', one-value _ _ _ z z')
+one-kz-write N n root start t work out r r' a a' u u' o o' (p, q, s, z) (p', q', s', z') =
+    (one-value _ _ _ p p', one-value _ _ _ q q', one-value _ _ _ s s', one-value _ _ _ z z')
 
 pub one-kz-read : (bytes t : List ℕ) (r r' : ℕ) (a a' u u' : List ℕ)
     → (r ≡ readAnswer bytes t .number) × (a ≡ readNumbers (readAnswer bytes t)) × (u ≡ readTables bytes t)
@@ -36,7 +41,8 @@ pub one-kz-open : (k k' : List ℕ) → k ≡ storedSession opened → k' ≡ st
 one-kz-open k k' p q = one-value k k' (storedSession opened) p q
 
 -- the rooms of a session's call, whichever it is, and the number that it returns
-one-lent : (z : Lent) (r r' : ℕ) (k k' a a' t t' : List ℕ) → (lent k a t ≡ z) × (r ≡ getD a 0 0) → (lent k' a' t' ≡ z) × (r' ≡ getD a' 0 0) → (r ≡ r') × (k ≡ k') × (a ≡ a') × (t ≡ t')
+one-lent : (z : Lent) (r r' : ℕ) (k k' a a' t t' : List ℕ) → (lent k a t ≡ z) × (r ≡ getD a 0 0) → (lent k' a' t' ≡ z) × (r' ≡ getD a' 0 0)
+    → (r ≡ r') × (k ≡ k') × (a ≡ a') × (t ≡ t')
 one-lent z r r' k k' a a' t t' (p, q) (p', q') =
     let e : lent k a t ≡ lent k' a' t' = one-value _ _ z p p' in
     let d : a ≡ a' = ap (λ (x : Lent). x .answer) e in

@@ -1,5 +1,5 @@
--- The lowest queue by the count and the positions: the queues below Lj are empty where each of their positions has come to the count, and Lj then holds the walk numbers
--- from its own position up to the count. Rests on Positions.
+-- The lowest queue by the count and the positions: the queues below Lj are empty where each of their positions has come to the count, and Lj then holds the
+-- walk numbers from its own position up to the count. Rests on Positions.
 use Prim.Native.Nat.{ℕ, _+_, _≤_, _<_}
 use mathlib.Core.Path.{_≡_, refl}
 use mathlib.Core.List.{List}

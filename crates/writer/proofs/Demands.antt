@@ -16,8 +16,8 @@ pub record Writes (N n root : ℕ) (t : List ℕ) (start : ℕ) (work out : List
   pub room : work' ≡ writeWork N n root t work
   pub page : out' ≡ writeOut N n root start t work out
 
--- pages written in order, each call meeting the contract of `write`: on the work room as the call before it has left it, into an output of any length and with anything in it, the
--- next from where the last ended. What is joined are the bytes of each output that the call says it has written.
+-- pages written in order, each call meeting the contract of `write`: on the work room as the call before it has left it, into an output of any length and with
+-- anything in it, the next from where the last ended. What is joined are the bytes of each output that the call says it has written.
 pub data Served (N n root : ℕ) (t : List ℕ) : ℕ → List ℕ → List ℕ → ℕ → Type 0 where
   none : {start : ℕ} {work : List ℕ} → Served N n root t start work [] start
   more : {start end : ℕ} {work bytes : List ℕ} (out : List ℕ) (a : WriteAnswer) (work' out' : List ℕ) → Writes N n root t start work out a work' out'
@@ -25,7 +25,8 @@ pub data Served (N n root : ℕ) (t : List ℕ) : ℕ → List ℕ → List ℕ 
 
 module _ (N n root : ℕ) (t : List ℕ) where
   -- the bytes before the first page, then those of the pages, are the stream's up to where the last page ended
-  served-joins : {start end : ℕ} {work bytes : List ℕ} → Served N n root t start work bytes end → verdict N n root t (length work) ≡ Verdict.fine → start ≤ length (stream N n t root)
+  served-joins : {start end : ℕ} {work bytes : List ℕ} → Served N n root t start work bytes end
+      → verdict N n root t (length work) ≡ Verdict.fine → start ≤ length (stream N n t root)
       → (take start (stream N n t root) ++ bytes ≡ take end (stream N n t root)) × (end ≤ length (stream N n t root))
   served-joins (Served.none {start}) f h = (append-nil (take start (stream N n t root)), h)
   served-joins (Served.more {start} {end} {work} {bytes} out a work' out' x s) f h =
@@ -41,14 +42,17 @@ module _ (N n root : ℕ) (t : List ℕ) where
       (rw p (sym (append-assoc (take start S) P bytes) ∙ (ap (λ (y : List ℕ). y ++ bytes) b ∙ q)), e)
 
   -- pages from 0 on: what they join to is the stream up to where the last ended, and the whole stream once that is its length
-  pub served-bytes : {work bytes : List ℕ} {end : ℕ} → verdict N n root t (length work) ≡ Verdict.fine → Served N n root t 0 work bytes end → bytes ≡ take end (stream N n t root)
+  pub served-bytes : {work bytes : List ℕ} {end : ℕ} → verdict N n root t (length work) ≡ Verdict.fine
+      → Served N n root t 0 work bytes end → bytes ≡ take end (stream N n t root)
   served-bytes f s = served-joins s f (omega arith) .0
 
-  pub served-stream : {work bytes : List ℕ} → verdict N n root t (length work) ≡ Verdict.fine → Served N n root t 0 work bytes (length (stream N n t root)) → bytes ≡ stream N n t root
+  pub served-stream : {work bytes : List ℕ} → verdict N n root t (length work) ≡ Verdict.fine
+      → Served N n root t 0 work bytes (length (stream N n t root)) → bytes ≡ stream N n t root
   served-stream f s = served-bytes f s ∙ take-all (length (stream N n t root)) (stream N n t root) (omega arith)
 
   -- they get there: each call answers the stream's length, and before that is reached a page with room for a byte has at least one
-  pub served-goes : {start : ℕ} {work out work' out' : List ℕ} {a : WriteAnswer} → verdict N n root t (length work) ≡ Verdict.fine → start < length (stream N n t root) → 0 < length out
+  pub served-goes : {start : ℕ} {work out work' out' : List ℕ} {a : WriteAnswer} → verdict N n root t (length work) ≡ Verdict.fine
+      → start < length (stream N n t root) → 0 < length out
       → Writes N n root t start work out a work' out' → (a .length ≡ length (stream N n t root)) × (0 < a .written)
   served-goes {start} {work} {out} {work'} {out'} {a} f h o x =
       let w = wrote N n root t work f start out (omega arith) in
