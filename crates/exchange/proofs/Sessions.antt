@@ -20,7 +20,8 @@ use Rattle.rules.specs.Reading.{Reading, readingOf, readHeader, answerOf, table
 use Rattle.rules.specs.Session.{idle, held, store, opened, Left, leaves, page, close, recordFor, tablesFor}
 use Rattle.rules.proofs.Lists.{and-left, and-right, both, below-all, getD-same, seven}
 use Rattle.rules.proofs.Codes.{value-lt}
-use Rattle.rules.proofs.Positions.{gone, Shape, gone-le-count}
+use Rattle.rules.specs.Inner.{gone, Shape}
+use Rattle.rules.proofs.Positions.{gone-le-count}
 use Rattle.rules.proofs.Readings.{begins-13}
 use Rattle.rules.proofs.Fitness.{Fits}
 use Rattle.rules.proofs.Sessions.{whole, reading-fits, page-reads, close-whole}

@@ -14,12 +14,12 @@ use Rattle.steps.specs.declared.Case.{Case}
 use Rattle.steps.specs.declared.Case.the-variants.{Known, Deduced, Asked}
 use Rattle.rules.specs.Lists.{range}
 use Rattle.rules.specs.Walk.{Head, headFrom, head, Partner, partner}
-use Rattle.rules.specs.Session.{queuesOf, needsSymbol, asks}
+use Rattle.rules.specs.Session.{queuesOf, walkAt, needsSymbol, asks}
 use Rattle.rules.proofs.Lists.{range-empty, range-cons}
 use Rattle.walk.specs.Numbers.{lowestFrom}
 use Rattle.steps.specs.Partners.{looking, toldPartner}
 use Rattle.steps.proofs.Partners.{partner-looking}
-use Rattle.fitness.specs.Parts.{standing, asksAt}
+use Rattle.fitness.specs.Parts.{asksAt}
 
 -- the dart that position r lets go next, if r is below the end of the search
 foundAt : ℕ → ℕ → List ℕ → Head
@@ -42,8 +42,8 @@ head-lowest (suc k) j c ps h = rw (drop-cons ps j 0 (omega arith)) (go (head-low
     go rec false e = rw (range-empty x c (ltb-false x c e), lowestFrom, e, further) rec
 
 module _ (N n : ℕ) (t : List ℕ) (c : ℕ) (ps : List ℕ) (seven : length ps ≡ 7) (h6 : N ≤ 6) (j : ℕ) (ej : j ≡ lowestFrom (N + 1) 0 c ps) where
-  here : head (standing N n t c ps) ≡ foundAt j (suc N) ps
-  unfolding standing
+  here : head (walkAt N n (record { count = c; positions = ps }) t) ≡ foundAt j (suc N) ps
+  unfolding walkAt
   here =
       let e : N + 1 ≡ suc N = omega arith in
       let z : 0 + suc N ≡ suc N = omega arith in
@@ -55,7 +55,7 @@ module _ (N n : ℕ) (t : List ℕ) (c : ℕ) (ps : List ℕ) (seven : length ps
 
   asks-here : j ≤ N → (p : Partner) → p ≡ partner (looking N n t) j (getD ps j 0) → needsSymbol p ≡ asksAt N n t c ps
   unfolding asksAt asks foundAt
-  asks-here h p e = rw (here, lt-ltb j (suc N) (omega arith), e) (ap needsSymbol (unfold standing in sym (partner-looking (standing N n t c ps) j (getD ps j 0))))
+  asks-here h p e = rw (here, lt-ltb j (suc N) (omega arith), e) (ap needsSymbol (unfold walkAt in sym (partner-looking (walkAt N n (record { count = c; positions = ps }) t) j (getD ps j 0))))
 
   module _ (h : j ≤ N) (x : Case) (ex : toldPartner x ≡ partner (looking N n t) j (getD ps j 0)) where
     pub asks-known : x ≡ Known → false ≡ asksAt N n t c ps

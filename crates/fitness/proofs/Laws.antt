@@ -15,18 +15,18 @@ use lib.Pow.{pow-pos}
 use native.Mathlib.Numerals.{add-one}
 use Rattle.rules.specs.declared.Session.{Session}
 use Rattle.rules.specs.declared.State.{State}
-use Rattle.steps.specs.declared.Stand.{Stand}
+use Rattle.rules.specs.declared.Stand.{Stand}
 use Rattle.rules.specs.declared.State.the-variants.{Header, Running, Complete, Closed, Refused}
 use Rattle.rules.specs.Lists.{allBelow}
 use Rattle.rules.specs.Map.{dimFits, dartsFit, size, place, link, Limits}
 use Rattle.rules.specs.Walk.{head}
 use Rattle.rules.specs.Stream.{bitsOf}
-use Rattle.rules.specs.Session.{walkOf, waitingOf, valueFits, onlyBits, positionsFit, entryFits, entriesFit, walkFits, asks, begins, allDone, fitAs, fit}
+use Rattle.rules.specs.Session.{walkAt, standOf, walkOf, waitingOf, valueFits, onlyBits, positionsFit, entryFits, entriesFit, walkFits, asks, begins, allDone, fitAs, fit}
 use Rattle.rules.proofs.Lists.{and-left, and-right, or-left, or-right, not-both, all-below, below-all, below-same}
 use Rattle.rules.proofs.Places.{place-below, place-row, rank-nth, dart-nth}
 use Rattle.rules.proofs.Codes.{length-bits}
 use Rattle.tables.proofs.Laws.{entry-link}
-use Rattle.fitness.specs.Parts.{fallsAt, isAt, overAt, entryBy, entryOf, entryAt, allWithin, knownAt, openAt, blankAt, standing, asksAt}
+use Rattle.fitness.specs.Parts.{fallsAt, isAt, overAt, entryBy, entryOf, entryAt, allWithin, knownAt, openAt, blankAt, asksAt}
 
 -- tests whose other side is known
 and-no : (a : Bool) → (a && false) ≡ false
@@ -485,10 +485,10 @@ module _ (s : Session) (t : List ℕ) where
       unfolding fitAs
       complete-fit r q = rw (← e, not-false w hw) q
 
-      module _ (x : Stand) (ex : (x .count ≡ s .count) × (x .positions ≡ s .positions)) (a : Bool) (ea : a ≡ asksAt (s .dim) (s .darts) t (x .count) (x .positions)) where
+      module _ (x : Stand) (ex : x ≡ standOf s) (a : Bool) (ea : a ≡ asksAt (s .dim) (s .darts) t (x .count) (x .positions)) where
         asking : asks (walkOf s t) (head (walkOf s t)) ≡ a
-        unfolding walkOf asksAt standing
-        asking = sym (rw (ex .0, ex .1) at ea)
+        unfolding walkAt asksAt
+        asking = sym (rw ex at ea)
 
         pub running-still : not a ≡ true → false ≡ fitAs Running s t
         unfolding fitAs

@@ -1,13 +1,13 @@
 -- The tests of fitness one by one, over the numbers that each looks at. The rules' definitions are these at a session's fields.
-use Prim.Native.Nat.{ℕ, suc, _+_, _-_, _/_, _%_}
+use Prim.Native.Nat.{ℕ, _+_, _-_, _/_, _%_}
 use mathlib.Core.List.{List, _∷_}
 use mathlib.Core.Bool.{Bool, not, _&&_, _||_, cond}
 use lib.ListN.{getD}
 use lib.Dec.{eqb, ltb, leb}
 use Rattle.rules.specs.Lists.{allBelow}
 use Rattle.rules.specs.Map.{mark, link}
-use Rattle.rules.specs.Walk.{Walk, head}
-use Rattle.rules.specs.Session.{queuesOf, asks}
+use Rattle.rules.specs.Walk.{head}
+use Rattle.rules.specs.Session.{walkAt, asks}
 
 -- position i is not above the one before it, or count
 unfoldable pub fallsAt : ℕ → List ℕ → ℕ → Bool
@@ -49,10 +49,6 @@ openAt t c k = ltb (getD t k 0) c || eqb (getD t k 0) mark
 unfoldable pub blankAt : List ℕ → ℕ → Bool
 blankAt t k = eqb (getD t k 0) mark
 
--- the walk that count and positions stand for, over tables
-unfoldable pub standing : ℕ → ℕ → List ℕ → ℕ → List ℕ → Walk
-standing N n t c positions = record { dim = N; darts = n; queues = queuesOf (suc N) c positions; links = t; count = c; positions = positions }
-
--- a queue of it isn't empty, and the next step needs a symbol
+-- a queue of the walk that count and positions stand for isn't empty, and its next step needs a symbol
 unfoldable pub asksAt : ℕ → ℕ → List ℕ → ℕ → List ℕ → Bool
-asksAt N n t c positions = let w = standing N n t c positions in asks w (head w)
+asksAt N n t c positions = let w = walkAt N n (record { count = c; positions = positions }) t in asks w (head w)

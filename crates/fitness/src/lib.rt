@@ -1,9 +1,9 @@
 // Fitness of a session, as document 01 lists it: any record, any tables.
 use rules::Session;
+use rules::Stand;
 use rules::State;
 use rules::WalkNo;
 use steps::Case;
-use steps::Stand;
 ghost use mathlib.Core.Path.{_≡_};
 ghost use mathlib.Core.Bool.{_&&_, _||_};
 ghost use Prim.Native.Nat.{ℕ, suc, _+_, _≤_, _^_};
@@ -15,17 +15,6 @@ ghost use Rattle.rules.specs.Stream.{bitsOf};
 ghost use Rattle.rules.specs.Session.{valueFits, onlyBits, walkFits, allDone, fitAs};
 ghost use Rattle.rules.specs.declared.State.the-variants.{Running, Complete};
 ghost use Rattle.fitness.specs.Parts.{fallsAt, isAt, overAt, allWithin, knownAt, openAt, blankAt, entryOf, entryAt, asksAt};
-
-// The walk that a record stands for.
-pub fn stand_of(s: Session) -> Stand
-    ensures { λ r. ⌜ (r .count ≡ s .count) × (r .positions ≡ s .positions) ⌝ }
-{
-    let positions = s.positions;
-    Stand {
-        count: s.count,
-        positions,
-    }
-}
 
 // The first positions are all x.
 pub fn positions_are(k: usize, x: u16, positions: [u16; 7]) -> bool
@@ -306,7 +295,7 @@ pub fn running_fits(s: Session, tables: &[u16]) -> bool
     if !walk_fits(s, tables) {
         return false;
     }
-    if !asks(s.dim as usize, s.darts as usize, stand_of(s), tables) {
+    if !asks(s.dim as usize, s.darts as usize, rules::stand_of(s), tables) {
         return false;
     }
     begins(s.waiting, s.value)

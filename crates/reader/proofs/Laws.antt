@@ -15,7 +15,7 @@ use Rattle.rules.specs.declared.Session.{Session}
 use Rattle.rules.specs.declared.ReadAnswer.{ReadAnswer}
 use Rattle.rules.specs.declared.State.{State}
 use Rattle.symbols.specs.declared.Cursor.{Cursor}
-use Rattle.steps.specs.declared.Stand.{Stand}
+use Rattle.rules.specs.declared.Stand.{Stand}
 use Rattle.records.specs.declared.Paged.{Paged}
 use Rattle.rules.specs.declared.State.the-variants.{Header, Running, Complete, Closed, Refused}
 use Rattle.rules.specs.Lists.{sum}
@@ -23,18 +23,18 @@ use Rattle.rules.specs.Map.{dimFits, size, blank, Limits}
 use Rattle.rules.specs.Walk.{Walk, start, steps}
 use Rattle.rules.specs.Stream.{bitsOf, value, unpack}
 use Rattle.rules.specs.Reading.{runAll, Reading, spoiled, settle, begun, headerDim, headerDarts, readHeader, readingOf, closing, goodAnswer, plainAnswer, answerOf, tablesOf, readAnswer, readTables}
-use Rattle.rules.specs.Session.{idle, held, store, opened, walkOf, waitingOf, fit, Left, unchanged, leaves, goOn, afterEnd, pageAs, closeAs, ifFit, page, close, recordFor, tablesFor}
-use Rattle.rules.proofs.Positions.{Shape}
+use Rattle.rules.specs.Session.{idle, held, store, opened, walkAt, standOf, walkOf, waitingOf, fit, Left, unchanged, leaves, goOn, afterEnd, pageAs, closeAs, ifFit, page, close, recordFor, tablesFor}
+use Rattle.rules.specs.Inner.{Shape}
 use Rattle.rules.proofs.Codes.{value-append, length-bits, value-lt, value-bits}
 use Rattle.rules.proofs.Readings.{begins-13, fits-dim}
 use Rattle.rules.proofs.Fitness.{walk-held, waiting-held, Fits, FitSession, fit-session, fit-shape}
 use Rattle.rules.proofs.Sessions.{record-fit, close-reads}
 use Rattle.symbols.specs.Cursors.{atHand}
-use Rattle.steps.specs.Turns.{walkAt, Ready}
+use Rattle.steps.specs.Turns.{Ready}
 use Rattle.steps.proofs.Turns.{walk-session, walk-start, ready-start}
 use Rattle.records.specs.Lefts.{leftBy, idleBy, heldBy}
 use Rattle.records.proofs.Lefts.{settle-same}
-use Rattle.reader.specs.Calls.{headed, standBy, cursorOf}
+use Rattle.reader.specs.Calls.{headed, cursorOf}
 
 -- a header's two bytes: 4 bits N, 12 bits n-1
 module _ (x y : ℕ) (hx : x < 256) (hy : y < 256) (rest : List Bool) where
@@ -224,16 +224,16 @@ module _ (s : Session) (t : List ℕ) (seven : length (s .positions) ≡ 7) (e :
       go (FitSession.refused nr p z f) = other (s .state) Header (Refused nr p) q z (omega arith)
 
   -- a running one may go on
-  pub running-ready : (page : List ℕ) → s .state ≡ Running → Ready (s .dim) (s .darts) (standBy s) (cursorOf s) t page
+  pub running-ready : (page : List ℕ) → s .state ≡ Running → Ready (s .dim) (s .darts) (standOf s) (cursorOf s) t page
   running-ready page q = go (fit-session s t seven e)
     where
-      from : (r : Reading) → Fits r → s ≡ store r → t ≡ tablesOf r t → Ready (s .dim) (s .darts) (standBy s) (cursorOf s) t page
+      from : (r : Reading) → Fits r → s ≡ store r → t ≡ tablesOf r t → Ready (s .dim) (s .darts) (standOf s) (cursorOf s) t page
       from _ (Fits.header {bs} h) es et = unfold store idle in other (s .state) Running Header q (ap (λ (x : Session). x .state) es) (omega arith)
       from _ (Fits.running {w} {bs} v d a) es et = unfold store tablesOf in walking es et
         where
-          walking : s ≡ held Running w bs → t ≡ w .links → Ready (s .dim) (s .darts) (standBy s) (cursorOf s) t page
+          walking : s ≡ held Running w bs → t ≡ w .links → Ready (s .dim) (s .darts) (standOf s) (cursorOf s) t page
           walking es et =
-              let p : walkAt (s .dim) (s .darts) (standBy s) t ≡ w = sym (walk-session s t) ∙ ((λ i. walkOf (es i) (et i)) ∙ walk-held Running w bs (v .shape)) in
+              let p : walkAt (s .dim) (s .darts) (standOf s) t ≡ w = sym (walk-session s t) ∙ ((λ i. walkOf (es i) (et i)) ∙ walk-held Running w bs (v .shape)) in
               let b : bitsOf (s .waiting) (s .value) ≡ bs = unfold waitingOf in ap waitingOf es ∙ waiting-held Running w bs in
               let ed : s .dim ≡ w .dim = unfold held in ap (λ (x : Session). x .dim) es in
               let ew : s .waiting ≡ length bs = unfold held in ap (λ (x : Session). x .waiting) es in
@@ -247,7 +247,7 @@ module _ (s : Session) (t : List ℕ) (seven : length (s .positions) ≡ 7) (e :
       from _ (Fits.complete v d h n) es et = unfold store held in other (s .state) Running Complete q (ap (λ (x : Session). x .state) es) (omega arith)
       from _ (Fits.refused {nr} {p} f) es et = unfold store idle in other (s .state) Running (Refused nr p) q (ap (λ (x : Session). x .state) es) (omega arith)
 
-      go : FitSession s t → Ready (s .dim) (s .darts) (standBy s) (cursorOf s) t page
+      go : FitSession s t → Ready (s .dim) (s .darts) (standOf s) (cursorOf s) t page
       go (FitSession.reading r f o es et) = from r f es et
       go (FitSession.closed z) = other (s .state) Running Closed q z (omega arith)
       go (FitSession.refused nr p z f) = other (s .state) Running (Refused nr p) q z (omega arith)
@@ -259,7 +259,7 @@ module _ (s : Session) (t : List ℕ) (seven : length (s .positions) ≡ 7) (e :
       within : 1 ≤ s .dim → Limits (s .dim) (s .darts) t
       within d =
           let h : Shape (walkOf s t) = fit-shape s t seven (inr q) e in
-          unfold walkOf in record { dims = (d, h .ranks); darts = (omega (arith, h .some, h .within), h .small); room = h .table }
+          unfold walkAt in record { dims = (d, h .ranks); darts = (omega (arith, h .some, h .within), h .small); room = h .table }
 
       from : (r : Reading) → Fits r → s ≡ store r → Limits (s .dim) (s .darts) t
       from _ (Fits.header {bs} h) es = unfold store idle in other (s .state) Complete Header q (ap (λ (x : Session). x .state) es) (omega arith)
@@ -279,14 +279,14 @@ after-more w [] h = absurd (omega arith)
 after-more w (b ∷ bits) h = refl
 
 -- a running session may go on from any byte of a page
-pub running-may : (s : Session) (k : Stand) → k ≡ standBy s → (t page : List ℕ) → Ready (s .dim) (s .darts) (standBy s) (cursorOf s) t page
+pub running-may : (s : Session) (k : Stand) → k ≡ standOf s → (t page : List ℕ) → Ready (s .dim) (s .darts) (standOf s) (cursorOf s) t page
     → (at : ℕ) → at ≤ length page → Ready (s .dim) (s .darts) k (record { waiting = s .waiting; value = s .value; at = at; bit = 0 }) t page
 running-may s k ek t page y at h =
     let f = y .fits in
     rw ek (record { inv = y .inv; dims = y .dims; fits = record { few = f .few; holds = f .holds; within = h; inByte = f .inByte }; begun = y .begun })
 
 -- calls on the walk of a record
-module _ (r : Paged) (s : Session) (k : Stand) (ek : k ≡ standBy s) (t : List ℕ) where
+module _ (r : Paged) (s : Session) (k : Stand) (ek : k ≡ standOf s) (t : List ℕ) where
   abbrev answerBy : Stand → ReadAnswer
   answerBy x = record { number = 0; place = 0; steps = sum (x .positions); dim = s .dim; darts = s .darts }
 
@@ -298,11 +298,11 @@ module _ (r : Paged) (s : Session) (k : Stand) (ek : k ≡ standBy s) (t : List 
   running-goes page u e = rw walk-of at e
 
   complete-left : r .session ≡ heldBy Complete (s .dim) (s .darts) k 0 0 → r .answer ≡ answerBy k → leftBy r t ≡ leaves (Reading.complete (walkOf s t)) t
-  unfolding leftBy leaves store held answerOf goodAnswer tablesOf steps walkOf value
+  unfolding leftBy leaves store held answerOf goodAnswer tablesOf steps walkAt value
   complete-left e f = λ i. record { session = (e ∙ ap (λ (x : Stand). heldBy Complete (s .dim) (s .darts) x 0 0) ek) i; answer = (f ∙ ap answerBy ek) i; tables = t }
 
   pub closed-left : r .session ≡ heldBy Closed (s .dim) (s .darts) k 0 0 → r .answer ≡ answerBy k → leftBy r t ≡ leaves (closing (Reading.complete (walkOf s t)) t) t
-  unfolding leftBy leaves closing store held answerOf goodAnswer tablesOf steps walkOf value
+  unfolding leftBy leaves closing store held answerOf goodAnswer tablesOf steps walkAt value
   closed-left e f = λ i. record { session = (e ∙ ap (λ (x : Stand). heldBy Closed (s .dim) (s .darts) x 0 0) ek) i; answer = (f ∙ ap answerBy ek) i; tables = t }
 
   pub complete-none : (page : List ℕ) → length page ≡ 0 → r .session ≡ heldBy Complete (s .dim) (s .darts) k 0 0 → r .answer ≡ answerBy k → leftBy r t ≡ leaves (afterEnd (walkOf s t) (unpack page)) t

@@ -2,8 +2,8 @@
 use records::Paged;
 use rules::ReadAnswer;
 use rules::Session;
+use rules::Stand;
 use rules::State;
-use steps::Stand;
 use symbols::Cursor;
 ghost use mathlib.Core.Path.{_≡_};
 ghost use mathlib.Core.Bool.{true};
@@ -14,10 +14,10 @@ ghost use lib.ListN.{length, drop};
 ghost use Rattle.rules.specs.Map.{Limits};
 ghost use Rattle.rules.specs.Stream.{unpack};
 ghost use Rattle.rules.specs.Reading.{readAnswer, readTables, readingOf};
-ghost use Rattle.rules.specs.Session.{leaves, waitingOf, walkOf, goOn, afterEnd, pageAs, closeAs};
+ghost use Rattle.rules.specs.Session.{leaves, waitingOf, walkOf, goOn, afterEnd, pageAs, closeAs, standOf};
 ghost use Rattle.steps.specs.Turns.{Ready};
 ghost use Rattle.records.specs.Lefts.{leftBy, idleBy};
-ghost use Rattle.reader.specs.Calls.{headed, cursorOf, standBy};
+ghost use Rattle.reader.specs.Calls.{headed, cursorOf};
 
 // Both header bytes are in; the page goes on at a byte of it.
 pub fn begin(first: u8, second: u8, at: usize, page: &[u8], tables: &mut [u16]) -> Paged
@@ -79,21 +79,12 @@ pub fn page_header(s: Session, page: &[u8], tables: &mut [u16]) -> Paged
     begin(s.value as u8, page[0], 1, page, tables)
 }
 
-// Where a record's walk stands.
-pub fn stand_of(s: Session) -> Stand
-    ensures { λ r. ⌜ r ≡ standBy s ⌝ }
-{
-    let positions = s.positions;
-    let count = s.count;
-    Stand { count, positions }
-}
-
 // A page on a running session: what waits comes first.
 pub fn page_running(s: Session, page: &[u8], tables: &mut [u16]) -> Paged
-    requires { ⌜ Ready (s .dim) (s .darts) (standBy s) (cursorOf s) (now tables) (now page) ⌝ }
+    requires { ⌜ Ready (s .dim) (s .darts) (standOf s) (cursorOf s) (now tables) (now page) ⌝ }
     ensures { λ r. ⌜ leftBy r (now (tables .exit)) ≡ leaves (goOn s (unpack (now (page .entry))) (now (tables .entry))) (now (tables .entry)) ⌝ }
 {
-    let stand = stand_of(s);
+    let stand = rules::stand_of(s);
     let c = Cursor {
         waiting: s.waiting,
         value: s.value,
@@ -108,7 +99,7 @@ pub fn page_complete(s: Session, page: &[u8], tables: &mut [u16]) -> Paged
     requires { ⌜ Limits (s .dim) (s .darts) (now tables) ⌝ }
     ensures { λ r. ⌜ leftBy r (now (tables .exit)) ≡ leaves (afterEnd (walkOf s (now (tables .entry))) (unpack (now (page .entry)))) (now (tables .entry)) ⌝ }
 {
-    let stand = stand_of(s);
+    let stand = rules::stand_of(s);
     if page.len() == 0 {
         return records::held(
             State::Complete,
@@ -143,7 +134,7 @@ pub fn close_fit(s: Session, tables: &mut [u16]) -> Paged
     ensures { λ r. ⌜ leftBy r (now (tables .exit)) ≡ closeAs (s .state) s (now (tables .entry)) ⌝ }
 {
     let state = s.state;
-    let stand = stand_of(s);
+    let stand = rules::stand_of(s);
     match state {
         State::Header => records::refused(11, 0),
         State::Running => records::spoiled(11, s.dim as usize, s.darts as usize, stand, tables),

@@ -14,19 +14,20 @@ use Rattle.rules.specs.declared.State.the-variants as state
 use Rattle.rules.specs.Lists.{sum}
 use Rattle.rules.specs.Map.{Limits, blank, pairsOf, firstBroken}
 use Rattle.rules.specs.Walk.{Walk, linkOf, steps}
-use Rattle.rules.proofs.Positions.{gone, over}
+use Rattle.rules.specs.Inner.{gone}
+use Rattle.rules.proofs.Positions.{over}
 use Rattle.rules.proofs.Runs.{ran-ended}
 use Rattle.tables.specs.Darts.{Inside}
 use Rattle.rules.specs.Stream.{value}
 use Rattle.rules.specs.Reading.{Run, runAll, Reading, spoiled, test, manifold, finish, settle, goodAnswer, plainAnswer, answerOf, tablesOf}
-use Rattle.rules.specs.Session.{Left, idle, held, store, leaves}
+use Rattle.rules.specs.Session.{Left, idle, held, store, leaves, walkAt}
 use Rattle.symbols.specs.declared.Cursor.{Cursor}
 use Rattle.symbols.specs.Cursors.{atHand}
-use Rattle.steps.specs.declared.Stand.{Stand}
+use Rattle.rules.specs.declared.Stand.{Stand}
 use Rattle.steps.specs.declared.Turned.{Turned}
 use Rattle.steps.specs.declared.Signal.{Signal}
 use Rattle.steps.specs.declared.Signal.the-variants.{More, Ended, Waits, Refused}
-use Rattle.steps.specs.Turns.{walkAt, signalRun, toldRun, Runs}
+use Rattle.steps.specs.Turns.{signalRun, toldRun, Runs}
 use Rattle.records.specs.declared.Paged.{Paged}
 use Rattle.records.specs.Lefts.{leftBy, idleBy, heldBy, Settles, Closes}
 

@@ -8,7 +8,7 @@ use Rattle.rules.specs.declared.State.{State}
 use Rattle.symbols.specs.declared.Cursor.{Cursor}
 use Rattle.symbols.specs.Cursors.{atHand}
 use Rattle.tables.specs.Darts.{Inside}
-use Rattle.steps.specs.declared.Stand.{Stand}
+use Rattle.rules.specs.declared.Stand.{Stand}
 use Rattle.steps.specs.declared.Signal.{Signal}
 use Rattle.steps.specs.declared.Signal.the-variants.{More, Ended, Waits, Refused}
 use Rattle.rules.specs.Session.{Left}

@@ -1,9 +1,9 @@
 // The record and the answer that a reading leaves: refused, spoiled, held; the end of a walk, and where a run leaves the session.
 use rules::ReadAnswer;
 use rules::Session;
+use rules::Stand;
 use rules::State;
 use steps::Signal;
-use steps::Stand;
 use steps::Turned;
 use symbols::Cursor;
 ghost use mathlib.Core.Path.{_≡_};
@@ -16,10 +16,10 @@ ghost use Rattle.rules.specs.Lists.{sum};
 ghost use Rattle.rules.specs.Map.{Limits};
 ghost use Rattle.rules.specs.Stream.{value};
 ghost use Rattle.rules.specs.Reading.{plainAnswer, goodAnswer, runAll};
-ghost use Rattle.rules.specs.Session.{leaves};
+ghost use Rattle.rules.specs.Session.{leaves, walkAt};
 ghost use Rattle.symbols.specs.Cursors.{CursorFits, atHand};
 ghost use Rattle.tables.specs.Darts.{Inside};
-ghost use Rattle.steps.specs.Turns.{walkAt, toldRun, Ready, Runs};
+ghost use Rattle.steps.specs.Turns.{toldRun, Ready, Runs};
 ghost use Rattle.records.specs.Lefts.{leftBy};
 
 // A session and the answer of a call.

@@ -10,7 +10,8 @@ use lib.ListN.{length, getD}
 use Rattle.rules.specs.Map.{mark, link, allRanks, allBut, blank, Valid}
 use Rattle.rules.specs.Report.{Cell}
 use Rattle.rules.proofs.Orbits.{valid-closed, reached-trans, reached-sym}
-use Rattle.rules.proofs.Cells.{Picks, cells-unique}
+use Rattle.rules.specs.Inner.{Picks}
+use Rattle.rules.proofs.Cells.{cells-unique}
 use Rattle.report.specs.Flood.{Marked, Queue, Linked, Settled, Longer, Flooded, Spun, Spanned}
 use Rattle.report.proofs.Floods.{but-yes, linked-trans, linked-wider, linked-reached, longer-refl, longer-marked, reached-marked, flooded-longer, flooded-started, flooded-traced, flooded-settled, class-blanked, queue-blanked, none-blanked}
 

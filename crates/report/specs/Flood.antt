@@ -8,7 +8,7 @@ use lib.ListN.{length, getD, set, drop}
 use lib.Dec.{eqb, ltb, leb}
 use Rattle.rules.specs.Map.{mark, link, Reached, allRanks, allBut}
 use Rattle.rules.specs.Report.{Cell, cells}
-use Rattle.rules.proofs.Cells.{Picks}
+use Rattle.rules.specs.Inner.{Picks}
 
 -- dart d has a class
 abbrev pub Marked : List ℕ → ℕ → Type 0

@@ -8,11 +8,8 @@ use native.Mathlib.Decide.{ℕ-discrete, decLt}
 use lib.ListN.{getD, set}
 use lib.Seq.{getD-set-other}
 use Rattle.rules.specs.Walk.{Walk, Head, head}
-use Rattle.rules.proofs.Positions.{gone, bound, Shape, Turn, bound-le-count, turn, over}
-
--- the queues below Lj are empty
-pub record Emptied (count : ℕ) (positions : List ℕ) (j : ℕ) : Type 0 where
-  pub lower : (i : ℕ) → i < j → count ≤ getD positions i 0
+use Rattle.rules.specs.Inner.{gone, bound, Shape, Emptied, Lowest}
+use Rattle.rules.proofs.Positions.{Turn, bound-le-count, turn, over}
 
 -- no queue is below L0
 pub emptied-none : (c : ℕ) (ps : List ℕ) → Emptied c ps 0
@@ -29,12 +26,6 @@ emptied-next c ps j E q = record { lower = λ i h. go i h (ℕ-discrete i j) }
 -- a step at Lj leaves those below as they are
 pub emptied-passed : (c : ℕ) (ps : List ℕ) (j v : ℕ) → Emptied c ps j → Emptied c (set ps j v) j
 emptied-passed c ps j v E = record { lower = λ i h. rw (getD-set-other ps j i v 0 (omega arith)) (E .lower i h) }
-
--- Lj is the lowest queue that isn't empty
-pub record Lowest (N count : ℕ) (positions : List ℕ) (j : ℕ) : Type 0 where
-  pub ranked : j ≤ N
-  pub lower : Emptied count positions j
-  pub some : getD positions j 0 < count
 
 -- the head of the queues: of Lj where those below are empty and Lj isn't, and none where all are empty
 module _ (w : Walk) (s : Shape w) (j : ℕ) (E : Emptied (w .count) (w .positions) j) where

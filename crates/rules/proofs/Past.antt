@@ -22,7 +22,7 @@ use Rattle.rules.specs.Stream.{value, unpack, header, codes, filled, Tak
 use Rattle.rules.specs.Check.{Verdict, refuseIf, outside, twisted, unreached, tablesVerdict, verdict, numbering, workAfter, checkAnswerOf, checkAnswer, checkWork}
 use Rattle.rules.specs.Writing.{stream, startVerdict, writeVerdict, pageAfter, writeAnswerOf, writePage, writeAnswer, writeOut, writeWork}
 use Rattle.rules.specs.Reading.{Run, Step, permitted, fault, allow, stepTaken, stepWith, stepAt, step, onward, run, runAll, Reading, spoiled, test, manifold, finish, settle, begun, headerDim, headerDarts, readHeader, readingOf, closing, goodAnswer, answerOf, tablesOf, readWhole, readAnswer, readTables}
-use Rattle.rules.specs.Session.{idle, held, store, walkOf, waitingOf, valueFits, entryFits, entriesFit, walkFits, asks, begins, fitAs, fit, Left, unchanged, leaves, goOn, afterEnd, pageAs, closeAs, ifFit, page, close}
+use Rattle.rules.specs.Session.{idle, held, store, walkAt, walkOf, waitingOf, valueFits, entryFits, entriesFit, walkFits, asks, begins, fitAs, fit, Left, unchanged, leaves, goOn, afterEnd, pageAs, closeAs, ifFit, page, close}
 use Rattle.rules.specs.Report.{cells, cellCounts, reportAnswerOf, reportAnswer, reportWork}
 use Rattle.rules.proofs.Lists.{below-same, some-same, first-same}
 use Rattle.rules.proofs.Places.{nth-some, nth-rank, Alike, link-alike, blank-past}
@@ -31,7 +31,8 @@ use Rattle.rules.proofs.Orbits.{valid-closed}
 use Rattle.rules.proofs.Cells.{report-map-alone}
 use Rattle.rules.proofs.Check.{fine-passes}
 use Rattle.rules.proofs.Positions.{Next}
-use Rattle.rules.proofs.Walks.{Inv, start-inv, next-of}
+use Rattle.rules.specs.Inner.{Inv}
+use Rattle.rules.proofs.Walks.{start-inv, next-of}
 use Rattle.rules.proofs.Moves.{moved, step-move}
 use Rattle.rules.proofs.Runs.{moves-inv, Final, ran}
 use Rattle.rules.proofs.Readings.{dim-fits, header-darts}
@@ -411,7 +412,7 @@ asks-tailed w x v = go (head w) refl
 module _ (s : Session) (seven : length (s .positions) ≡ 7) (ys : List Bool) (m x : List ℕ) where
   -- fitness is the same, by the state and for any session
   fit-as-carried : (st : State) → reachAs st s ys ≤ length m → fitAs st s (m ++ x) ≡ fitAs st s m
-  unfolding reachAs fitAs walkOf tailed
+  unfolding reachAs fitAs walkAt tailed
   fit-as-carried Header h = refl
   fit-as-carried Running h = rw (walk-fits-alike s (m ++ x) m (take-append-le (size (s .dim) (s .darts)) m x h)) (go (walkFits s m) refl)
     where
@@ -431,7 +432,7 @@ module _ (s : Session) (seven : length (s .positions) ≡ 7) (ys : List Bool) (m
 
   -- a page and closing are the same, by the state
   page-as-carried : (st : State) → fitAs st s m ≡ true → reachAs st s ys ≤ length m → pageAs st s ys (m ++ x) ≡ leftTailed x (pageAs st s ys m)
-  unfolding reachAs pageAs goOn afterEnd readingTailed walkOf tailed
+  unfolding reachAs pageAs goOn afterEnd readingTailed walkAt tailed
   page-as-carried Header e h = rw (reading-carried (waitingOf s ++ ys) m x h) (leaves-carried (readingOf (waitingOf s ++ ys) m) m x)
   page-as-carried Running e h =
       let v = fits-inv s m seven (running-part s m seven e 0) .0 in
@@ -445,7 +446,7 @@ module _ (s : Session) (seven : length (s .positions) ≡ 7) (ys : List Bool) (m
   page-as-carried (Refused nr p) e h = unfold unchanged leftTailed in refl
 
   close-as-carried : (st : State) → reachAs st s ys ≤ length m → closeAs st s (m ++ x) ≡ leftTailed x (closeAs st s m)
-  unfolding reachAs closeAs closing readingTailed walkOf tailed
+  unfolding reachAs closeAs closing readingTailed walkAt tailed
   close-as-carried Header h = leaves-carried (Reading.refused 11 0 m) m x
   close-as-carried Running h = rw (spoiled-tailed (walkOf s m) x h 11) (leaves-carried (spoiled 11 (walkOf s m)) m x)
   close-as-carried Complete h = leaves-carried (Reading.closed (walkOf s m)) m x

@@ -15,11 +15,12 @@ use Rattle.rules.proofs.Runs.{total, steps-total, fuel, Stopped, stopped}
 use Rattle.rules.proofs.Readings.{begins-13, run-asks, total-enough}
 use Rattle.symbols.specs.declared.Cursor.{Cursor}
 use Rattle.symbols.specs.Cursors.{atHand}
-use Rattle.steps.specs.declared.Stand.{Stand}
+use Rattle.rules.specs.declared.Stand.{Stand}
 use Rattle.steps.specs.declared.Turned.{Turned}
 use Rattle.steps.specs.declared.Signal.{Signal}
 use Rattle.steps.specs.declared.Signal.the-variants.{More, Ended, Waits, Refused}
-use Rattle.steps.specs.Turns.{walkAt, signalStep, signalRun, toldRun, Ready, Turns, Runs}
+use Rattle.rules.specs.Session.{walkAt}
+use Rattle.steps.specs.Turns.{signalStep, signalRun, toldRun, Ready, Turns, Runs}
 use Rattle.steps.proofs.Turns.{apart}
 
 -- where a run stands that began at s0, c0 and t0

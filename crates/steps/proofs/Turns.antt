@@ -14,29 +14,28 @@ use Rattle.rules.specs.Walk.{Walk, start, Head, head, linkOf, unknown, Partner,
 use Rattle.rules.specs.Stream.{bitsOf}
 use Rattle.rules.specs.Stream as stream
 use Rattle.rules.specs.Reading.{Step, permitted, fault, allow, stepTaken, stepWith, stepAt, step}
-use Rattle.rules.specs.Session.{begins, queuesOf, walkOf}
+use Rattle.rules.specs.Session.{begins, queuesOf, walkOf, walkAt}
 use Rattle.rules.specs.declared.Session.{Session}
 use Rattle.rules.specs.declared.WalkNo.{WalkNo}
 use Rattle.rules.proofs.Lists.{and-left}
 use Rattle.rules.proofs.Places.{place-below}
-use Rattle.rules.proofs.Positions.{Shape}
-use Rattle.rules.proofs.Lowest.{Emptied, Lowest, head-lowest, head-past}
-use Rattle.rules.proofs.Walks.{Inv, start-inv, next-of, deduced-below}
+use Rattle.rules.specs.Inner.{Shape, Emptied, Lowest, Inv, Asks}
+use Rattle.rules.proofs.Lowest.{head-lowest, head-past}
+use Rattle.rules.proofs.Walks.{start-inv, next-of, deduced-below}
 use Rattle.rules.proofs.Moves.{Move, moved, see-deduced, step-move}
-use Rattle.rules.proofs.Readings.{Asks}
 use Rattle.rules.proofs.Fitness.{queues-of}
 use Rattle.symbols.specs.declared.Cursor.{Cursor}
 use Rattle.symbols.specs.declared.Taken.{Taken}
 use Rattle.symbols.specs.declared.Taken.the-variants as taken
 use Rattle.symbols.specs.Cursors.{atHand, CursorFits, told, PastCode, PastSymbol, SymbolTaken}
-use Rattle.steps.specs.declared.Stand.{Stand}
+use Rattle.rules.specs.declared.Stand.{Stand}
 use Rattle.steps.specs.declared.Turned.{Turned}
 use Rattle.steps.specs.declared.Signal.{Signal}
 use Rattle.steps.specs.declared.Signal.the-variants.{More, Ended, Waits, Refused}
 use Rattle.steps.specs.declared.Case.{Case}
 use Rattle.steps.specs.declared.Case.the-variants.{Known, Deduced, Asked}
 use Rattle.steps.specs.Partners.{looking, toldPartner}
-use Rattle.steps.specs.Turns.{walkAt, signalStep, toldStep, mayName, standOf, Tied, Ready, Served, Taking, Turns}
+use Rattle.steps.specs.Turns.{signalStep, toldStep, mayName, standOf, Tied, Ready, Served, Taking, Turns}
 use Rattle.steps.proofs.Partners.{partner-looking}
 
 -- a link's place is within the tables
@@ -54,7 +53,7 @@ stands N n s t w h ed en ec ep et = λ i. record { dim = sym ed i; darts = sym e
 
 -- the walk of a session's record, and of the start
 pub walk-session : (s : Session) (t : List ℕ) → walkOf s t ≡ walkAt (s .dim) (s .darts) (record { count = s .count; positions = s .positions }) t
-unfolding walkOf walkAt
+unfolding walkAt
 walk-session s t = refl
 
 pub walk-start : (N n : ℕ) (t : List ℕ) → 1 ≤ n → n ≤ 4096 → N ≤ 6

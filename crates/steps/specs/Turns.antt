@@ -1,5 +1,5 @@
 -- A step and a run as the code tells them: the walk that sizes, a stand and tables stand for, what may be asked of it, and what a turn and a run leave.
-use Prim.Native.Nat.{ℕ, suc, _+_, _≤_, _<_}
+use Prim.Native.Nat.{ℕ, _+_, _≤_, _<_}
 use mathlib.Core.Path.{_≡_}
 use mathlib.Core.Logic.{_≢_, _⊎_}
 use mathlib.Core.Bool.{Bool, true, not, _&&_}
@@ -10,29 +10,16 @@ use Rattle.rules.specs.Map.{Limits, mark, place, link}
 use Rattle.rules.specs.Walk.{Walk, Head, head}
 use Rattle.rules.specs.Stream.{bitsOf}
 use Rattle.rules.specs.Reading.{Run, Step, stepTaken, step, runAll}
-use Rattle.rules.specs.Session.{queuesOf, begins}
-use Rattle.rules.proofs.Lowest.{Emptied}
-use Rattle.rules.proofs.Walks.{Inv}
-use Rattle.rules.proofs.Readings.{Asks}
+use Rattle.rules.specs.Session.{begins, walkAt}
+use Rattle.rules.specs.Inner.{Emptied, Inv, Asks}
 use Rattle.symbols.specs.declared.Cursor.{Cursor}
 use Rattle.symbols.specs.declared.Taken.{Taken}
 use Rattle.symbols.specs.Cursors.{atHand, CursorFits, told}
-use Rattle.steps.specs.declared.Stand.{Stand}
+use Rattle.rules.specs.declared.Stand.{Stand}
 use Rattle.steps.specs.declared.Outcome.{Outcome}
 use Rattle.steps.specs.declared.Turned.{Turned}
 use Rattle.steps.specs.declared.Signal.{Signal}
 use Rattle.steps.specs.declared.Signal.the-variants.{More, Ended, Waits, Refused}
-
--- the walk that sizes, a stand and tables stand for
-unfoldable pub walkAt : ℕ → ℕ → Stand → List ℕ → Walk
-walkAt N n s t = record {
-  dim = N;
-  darts = n;
-  queues = queuesOf (suc N) (s .count) (s .positions);
-  links = t;
-  count = s .count;
-  positions = s .positions;
-}
 
 -- a signal as the rules' step
 unfoldable pub signalStep : Signal → Walk → List Bool → Step

@@ -1,5 +1,6 @@
 // One reading step and the run of steps that a page's bits allow, over lent tables and the positions.
 use rules::Session;
+use rules::Stand;
 use rules::WalkNo;
 use symbols::Cursor;
 use symbols::Taken;
@@ -11,15 +12,10 @@ ghost use lib.Dec.{ltb};
 ghost use Rattle.rules.specs.Map.{Limits, link};
 ghost use Rattle.rules.specs.Walk;
 ghost use Rattle.symbols.specs.Cursors.{CursorFits, PastSymbol};
-ghost use Rattle.rules.proofs.Lowest.{Emptied, Lowest};
+ghost use Rattle.rules.specs.Inner.{Emptied, Lowest};
 ghost use Rattle.steps.specs.Partners.{looking, toldPartner};
-ghost use Rattle.steps.specs.Turns.{walkAt, tablesJoined, mayName, standOf, turnedAt, Tied, Ready, Served, Taking, Turns, Runs};
-
-// Where a reading's walk stands: the darts numbered, and how many have left each queue.
-pub struct Stand {
-    pub count: u16,
-    pub positions: [u16; 7],
-}
+ghost use Rattle.rules.specs.Session.{walkAt};
+ghost use Rattle.steps.specs.Turns.{tablesJoined, mayName, standOf, turnedAt, Tied, Ready, Served, Taking, Turns, Runs};
 
 // The case of a step: what is to be done for aj(b).
 pub enum Case {

@@ -18,7 +18,7 @@ use Rattle.rules.specs.Walk.{Walk, Head, head, Partner, partner, Symbol, enough
 use Rattle.rules.specs.Check.{numbering}
 use Rattle.rules.specs.Stream.{codes}
 use Rattle.rules.proofs.Lists.{length-listOf, getD-listOf}
-use Rattle.rules.proofs.Lowest.{Emptied, Lowest}
+use Rattle.rules.specs.Inner.{Emptied, Lowest}
 use Rattle.rules.proofs.Runs.{codes-append}
 use Rattle.rules.proofs.Names.{name, room}
 use Rattle.rules.proofs.Numbering.{name-number, name-below, names-all}

@@ -5,7 +5,8 @@ use mathlib.Core.Path.{_≡_, refl}
 use native.Mathlib.Omega.{arith}
 use lib.ListN.{length}
 use borrow.Author.Needs.{needs}
-use Rattle.rules.proofs.Lowest.{Emptied, emptied-none, emptied-next}
+use Rattle.rules.specs.Inner.{Emptied}
+use Rattle.rules.proofs.Lowest.{emptied-none, emptied-next}
 use Rattle.steps.specs.Turns.{standOf}
 use Rattle.steps.proofs.Turns.{ready-limits, ready-seven, turn-ended}
 use Rattle.steps.proofs.Runs.{Going, going-start, stepsLeft, going-less, going-more, run-ended, run-waits, run-refused}

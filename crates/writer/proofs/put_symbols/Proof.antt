@@ -7,7 +7,8 @@ use lib.ListN.{length}
 use borrow.Author.Needs.{needs}
 use Rattle.rules.specs.Lists.{sum}
 use Rattle.rules.specs.Walk.{enough}
-use Rattle.rules.proofs.Lowest.{Emptied, emptied-none, emptied-next, Lowest}
+use Rattle.rules.specs.Inner.{Emptied, Lowest}
+use Rattle.rules.proofs.Lowest.{emptied-none, emptied-next}
 use Rattle.walk.proofs.Going.{emptied-after}
 use Rattle.writer.specs.Replays.{NumberedFrom}
 use Rattle.writer.proofs.Replays.{Replaying, replay-starts, replay-asks, replay-less, replay-goes, replay-ends}
