@@ -21,6 +21,7 @@ use Rattle.rules.specs.Lists.{allBelow}
 use Rattle.rules.specs.Map.{dimFits, dartsFit, size, place, link, Limits}
 use Rattle.rules.specs.Walk.{head}
 use Rattle.rules.specs.Stream.{bitsOf}
+use Rattle.rules.specs.Refusals.{among, atHeader, inStep, atEnd, wipes, fitRefused}
 use Rattle.rules.specs.Session.{walkAt, standOf, walkOf, waitingOf, valueFits, onlyBits, positionsFit, entryFits, entriesFit, walkFits, asks, begins, allDone, fitAs, fit}
 use Rattle.rules.proofs.Lists.{and-left, and-right, or-left, or-right, not-both, all-below, below-all, below-same}
 use Rattle.rules.proofs.Places.{place-below, place-row, rank-nth, dart-nth}
@@ -310,20 +311,17 @@ begins-more k x h h0 h1 =
 
 -- a refusal
 module _ (nr p : ℕ) where
-  abbrev fitRefusal : Bool
-  fitRefusal = ((eqb nr 1 || eqb nr 3) && eqb p 0) || (leb 11 nr && leb nr 18)
-
-  pub refusal-first : nr ≡ 1 → eqb p 0 ≡ fitRefusal
+  pub refusal-first : nr ≡ 1 → eqb p 0 ≡ fitRefused nr p
+  unfolding fitRefused atHeader wipes inStep atEnd among
   refusal-first e = rw (e, or-no)
 
-  pub refusal-third : nr ≡ 3 → eqb p 0 ≡ fitRefusal
+  pub refusal-third : nr ≡ 3 → eqb p 0 ≡ fitRefused nr p
+  unfolding fitRefused atHeader wipes inStep atEnd among
   refusal-third e = rw (e, or-no)
 
-  pub refusal-low : nr ≢ 1 → nr ≢ 3 → nr < 11 → false ≡ fitRefusal
-  refusal-low a b h = rw (ne-eqb nr 1 a, ne-eqb nr 3 b, lt-leb 11 nr h)
-
-  pub refusal-high : nr ≢ 1 → nr ≢ 3 → 11 ≤ nr → leb nr 18 ≡ fitRefusal
-  refusal-high a b h = rw (ne-eqb nr 1 a, ne-eqb nr 3 b, le-leb 11 nr h)
+  pub refusal-other : nr ≢ 1 → nr ≢ 3 → (r : Bool) → r ≡ wipes nr → r ≡ fitRefused nr p
+  unfolding fitRefused atHeader among
+  refusal-other a b r e = rw (ne-eqb nr 1 a, ne-eqb nr 3 b) e
 
 -- a header session
 module _ (s : Session) where
@@ -517,6 +515,6 @@ module _ (s : Session) (t : List ℕ) where
   unfolding fitAs
   fit-closed e = fit-as Closed e
 
-  pub fit-refused : (nr p : ℕ) → s .state ≡ Refused nr p → (r : Bool) → r ≡ fitRefusal nr p → r ≡ fit s t
+  pub fit-refused : (nr p : ℕ) → s .state ≡ Refused nr p → (r : Bool) → r ≡ fitRefused nr p → r ≡ fit s t
   unfolding fitAs
   fit-refused nr p e r q = q ∙ fit-as (Refused nr p) e

@@ -12,6 +12,7 @@ ghost use lib.Dec.{eqb, ltb, leb};
 ghost use Rattle.rules.specs.Lists.{allBelow};
 ghost use Rattle.rules.specs.Map.{Limits, size};
 ghost use Rattle.rules.specs.Stream.{bitsOf};
+ghost use Rattle.rules.specs.Refusals.{fitRefused};
 ghost use Rattle.rules.specs.Session.{valueFits, onlyBits, walkFits, allDone, fitAs};
 ghost use Rattle.rules.specs.declared.State.the-variants.{Running, Complete};
 ghost use Rattle.fitness.specs.Parts.{fallsAt, isAt, overAt, allWithin, knownAt, openAt, blankAt, entryOf, entryAt, asksAt};
@@ -311,20 +312,32 @@ pub fn complete_fits(s: Session, tables: &[u16]) -> bool
     all_done(s)
 }
 
+// Does a refusal wipe the tables?
+pub fn wipes(number: u32) -> bool
+    ensures { λ r. ⌜ r ≡ Rattle.rules.specs.Refusals.wipes number ⌝ }
+{
+    match number {
+        11 => true,
+        12 => true,
+        13 => true,
+        14 => true,
+        15 => true,
+        16 => true,
+        17 => true,
+        18 => true,
+        _ => false,
+    }
+}
+
 // Is a refused session fit?
 pub fn refusal_fits(number: u32, place: u32) -> bool
-    ensures { λ r. ⌜ r ≡ (((eqb number 1 || eqb number 3) && eqb place 0) || (leb 11 number && leb number 18)) ⌝ }
+    ensures { λ r. ⌜ r ≡ fitRefused number place ⌝ }
 {
-    if number == 1 {
-        return place == 0;
+    match number {
+        1 => place == 0,
+        3 => place == 0,
+        _ => wipes(number),
     }
-    if number == 3 {
-        return place == 0;
-    }
-    if number < 11 {
-        return false;
-    }
-    number <= 18
 }
 
 // Is a session fit, with the tables lent?

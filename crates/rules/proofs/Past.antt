@@ -337,7 +337,7 @@ settle-carried w x bs v = ap settle (run-carried k w x bs v) ∙ go (run k w bs)
     go _ (Final.ended {w' = w1} {rest = r1} y o) = unfold settle runTailed in
         let s = moves-inv (y .moves) v .shape in finish-tailed w1 x (s .table) (s .ranks) r1
     go _ (Final.waits y) = unfold settle runTailed readingTailed in refl
-    go _ (Final.refused {w' = w1} nr lo hi y _) = unfold settle runTailed in spoiled-tailed w1 x (moves-inv (y .moves) v .shape .table) nr
+    go _ (Final.refused {w' = w1} nr i y _) = unfold settle runTailed in spoiled-tailed w1 x (moves-inv (y .moves) v .shape .table) nr
 
 -- what the bits so far come to is the same where the tables hold what the header asks for
 reading-carried : (bits : List Bool) (m x : List ℕ) → headerSize bits ≤ length m → readingOf bits (m ++ x) ≡ readingTailed x (readingOf bits m)

@@ -46,7 +46,7 @@ stopped-walk : {w : Walk} {bs : List Bool} {r : Run} → Stopped w bs r → runW
 unfolding runWalk
 stopped-walk (Stopped.ended h) = refl
 stopped-walk Stopped.waits = refl
-stopped-walk (Stopped.refused nr lo hi) = refl
+stopped-walk (Stopped.refused nr i) = refl
 
 signal-walk : (g : Signal) (w : Walk) (bs : List Bool) → runWalk (signalRun g w bs) ≡ w
 unfolding runWalk signalRun

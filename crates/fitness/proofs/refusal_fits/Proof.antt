@@ -1,19 +1,23 @@
--- `fitness::refusal_fits` meets its contract: each answer is the case of the definition that the tests before it leave. Assumes nothing.
-use Rattle.fitness.proofs.Laws.{refusal-first, refusal-third, refusal-low, refusal-high}
+-- `fitness::refusal_fits` meets its contract: 1 and 3 by their place, another number by the set that wipes the tables. Assumes nothing.
+use native.Mathlib.Omega.{arith}
+use borrow.Author.Needs.{needs}
+use Rattle.fitness.proofs.Laws.{refusal-first, refusal-third, refusal-other}
 use Rattle.fitness.proofs.refusal_fits.Statement.{statement}
 use Rattle.fitness.proofs.refusal_fits.Tie as tie
 
+wipes-requires : tie.Need-wipes-requires
+wipes-requires c κs = search needs
+
 returns : tie.Need-returns
-returns c = refusal-first _ (c .before .args .place) (c .if1 .taken)
+returns c = let a = c .before .args in refusal-first (a .number) (a .place) (omega arith)
 
 returns-2 : tie.Need-returns-2
-returns-2 c = refusal-third _ (c .before .before .args .place) (c .if2 .taken)
+returns-2 c = let a = c .before .args in refusal-third (a .number) (a .place) (omega arith)
 
 returns-3 : tie.Need-returns-3
-returns-3 c = refusal-low _ (c .before .before .before .args .place) (c .before .before .if1 .left) (c .before .if2 .left) (c .if3 .taken)
-
-returns-4 : tie.Need-returns-4
-returns-4 c = refusal-high _ (c .before .before .before .args .place) (c .before .before .if1 .left) (c .before .if2 .left) (c .if3 .left)
+returns-3 c =
+    let a = c .before .before .args in
+    refusal-other (a .number) (a .place) (λ e. omega arith) (λ e. omega arith) (c .wipes .result) (c .wipes .ensures)
 
 pub refusal-fits-spec : {M : Type 1} → statement M
-refusal-fits-spec = tie.close (tie.spec returns returns-2 returns-3 returns-4)
+refusal-fits-spec = tie.close (tie.spec wipes-requires returns returns-2 returns-3)

@@ -1,0 +1,30 @@
+-- Sets of refusal numbers that the documents speak of together. Each is said here and nowhere else; what is proved of a set goes by its name.
+use Prim.Native.Nat.{ℕ}
+use mathlib.Core.Bool.{Bool, false, _&&_, _||_}
+use mathlib.Core.List.{List, [], _∷_}
+use lib.Dec.{eqb}
+
+-- one of the numbers listed
+unfoldable pub among : List ℕ → ℕ → Bool
+among [] nr = false
+among (x ∷ l) nr = eqb nr x || among l nr
+
+-- found at a header, before any step: nothing changes, and the place is 0
+unfoldable pub atHeader : ℕ → Bool
+atHeader nr = among (1 ∷ 3 ∷ []) nr
+
+-- found in a step
+unfoldable pub inStep : ℕ → Bool
+inStep nr = among (12 ∷ 13 ∷ 14 ∷ []) nr
+
+-- found at the walk's end
+unfoldable pub atEnd : ℕ → Bool
+atEnd nr = among (15 ∷ 16 ∷ 17 ∷ 18 ∷ []) nr
+
+-- wipes the tables, with the steps done as its place: closing too early, in a step, at the end
+unfoldable pub wipes : ℕ → Bool
+wipes nr = eqb nr 11 || inStep nr || atEnd nr
+
+-- fit when refused, with this place
+unfoldable pub fitRefused : ℕ → ℕ → Bool
+fitRefused nr p = (atHeader nr && eqb p 0) || wipes nr
