@@ -1,8 +1,10 @@
-# Read by surface/test and surface/bench: the archive, and how a C program of this folder is built with it and run.
+# Read by surface/test, surface/vectors and surface/bench: the archive, and how a C program of this folder is built
+# with it and run.
 #
-# The archive is made by `rt staticlib exchange`; if KANZHULET_LIB names a folder, the libexchange.a in it is taken instead. The archive
-# is for x86-64. There the system's C compiler is used, or the kit's if there is none, and the programs run as they are. On another
-# processor the kit's compiler builds them for x86-64 and the kit's emulator runs them.
+# The archive is made by `rt staticlib exchange`; if KANZHULET_LIB names a folder, the libexchange.a in it is taken
+# instead. The archive is for x86-64. There the system's C compiler is used, or the kit's if there is none, and the
+# programs run as they are. On another processor the kit's compiler builds them for x86-64 and the kit's emulator runs
+# them.
 
 root=$(cd "$(dirname "${BASH_SOURCE[0]}")/.." && pwd -P)
 build=$root/target/surface

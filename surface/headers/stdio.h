@@ -1,6 +1,14 @@
 /* For builds with a compiler that comes without headers: what the programs of this folder call, and no more. */
 #ifndef SURFACE_STDIO_H
 #define SURFACE_STDIO_H
+#include <stddef.h>
+#define EOF (-1)
+typedef struct surface_file FILE;
 int printf(const char *format, ...);
+int snprintf(char *to, size_t size, const char *format, ...);
 int putchar(int byte);
+FILE *fopen(const char *path, const char *mode);
+int fgetc(FILE *file);
+int ferror(FILE *file);
+int fclose(FILE *file);
 #endif

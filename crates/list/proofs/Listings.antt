@@ -13,7 +13,7 @@ use Rattle.rules.specs.Report.{cellCounts, freePairs, reportAnswer, reportAnswe
 use Rattle.rules.proofs.Check.{passes-fine}
 use Rattle.rules.proofs.Codes.{Bytes}
 use Rattle.rules.proofs.Sound.{sound}
-use Rattle.text.specs.Listing.{refusalLine, mapText, textBy, listing}
+use Rattle.listing.specs.Listing.{refusalLine, mapText, textBy, listing}
 
 module _ (bytes t work : List ℕ) where
   abbrev answer : ReadAnswer
@@ -29,11 +29,17 @@ module _ (bytes t work : List ℕ) where
   fine : Bytes bytes → answer .number ≡ 0 → 2 * answer .darts ≤ length work → verdict (answer .dim) (answer .darts) 0 tables (length work) ≡ Verdict.fine
   fine B e h =
       let a = sound bytes t B e in
-      passes-fine _ _ _ _ _ (record { limits = record { dims = a .limits .dims; darts = a .limits .darts; room = a .room }; work = h; valid = a .valid; connected = a .connected })
+      passes-fine _ _ _ _ _ (record {
+        limits = record { dims = a .limits .dims; darts = a .limits .darts; room = a .room };
+        work = h;
+        valid = a .valid;
+        connected = a .connected;
+      })
 
   -- an accepted stream lists its map, with the map's own cells and free pairs
   pub lists-map : Bytes bytes → answer .number ≡ 0 → 2 * answer .darts ≤ length work
-      → listing answer report tables ≡ mapText (answer .dim) (answer .darts) (answer .steps) (cellCounts (answer .dim) (answer .darts) tables) (freePairs (answer .dim) (answer .darts) tables) tables
+      → listing answer report tables ≡ mapText (answer .dim) (answer .darts) (answer .steps)
+      (cellCounts (answer .dim) (answer .darts) tables) (freePairs (answer .dim) (answer .darts) tables) tables
   unfolding listing textBy reportAnswer reportAnswerOf
   lists-map B e h = rw (fine B e h, eq-eqb (answer .number) 0 e) refl
 

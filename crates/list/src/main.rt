@@ -1,5 +1,5 @@
-// The listing program: reads one stream from standard input by pages through a session and prints the map, or the refusal. Nothing is printed before the
-// close answer is known.
+// The listing program: reads one stream from standard input by pages through a session and prints the map, or the
+// refusal. Nothing is printed before the close answer is known.
 use libc::STDIN_FILENO;
 use libc::STDOUT_FILENO;
 use rules::ReadAnswer;
@@ -74,7 +74,7 @@ fn print(a: ReadAnswer, tables: &[u16]) {
     let mut work = work_room();
     let mut out = text_room();
     let r = report::report(a.dim as usize, a.darts as usize, tables, &mut work);
-    let n = text::listing(&mut out, a, r, tables);
+    let n = listing::put(&mut out, a, r, tables);
     io::write_all(STDOUT_FILENO, &out[..n]);
 }
 

@@ -23,13 +23,15 @@ slice-aggregate-report c = search needs
 report-requires : tie.Need-report-requires
 report-requires c κs = search needs
 
-slice-aggregate-listing : tie.Need-slice-aggregate-listing
-slice-aggregate-listing c = search needs
+slice-aggregate-put : tie.Need-slice-aggregate-put
+slice-aggregate-put c = search needs
 
-listing-requires : tie.Need-listing-requires
-listing-requires c κs =
-    let a = c .before .before .before .before .before .before .before .before .before .args in
-    (λ h. reported (a .a .dim) (a .a .darts) (a .tables .now) _ _ (c .before .before .report .ensures .0) h .limits, omega (arith, c .before .before .before .before .before .before .text-room .ensures))
+put-requires : tie.Need-put-requires
+put-requires c κs =
+    let o = c .before .before .before .before .before .before in
+    let a = o .before .before .before .args in
+    let r = c .before .before .report .ensures in
+    (λ h. reported (a .a .dim) (a .a .darts) (a .tables .now) _ _ (r .0) h .limits, omega (arith, o .text-room .ensures))
 
 array-share-prefix-out : tie.Need-array-share-prefix-out
 array-share-prefix-out c = search needs
@@ -53,8 +55,8 @@ print-spec =
     cast-report-2
     slice-aggregate-report
     report-requires
-    slice-aggregate-listing
-    listing-requires
+    slice-aggregate-put
+    put-requires
     array-share-prefix-out
     slice-aggregate-write-all
     write-all-requires
