@@ -28,6 +28,7 @@ use Rattle.rules.proofs.Lists.{below-same, some-same, first-same}
 use Rattle.rules.proofs.Places.{nth-some, nth-rank, Alike, link-alike, blank-past}
 use Rattle.rules.proofs.Pairs.{nth, nth-fits, prefix-within}
 use Rattle.rules.proofs.Orbits.{valid-closed}
+use Rattle.rules.proofs.Renamed.{alike-same}
 use Rattle.rules.proofs.Cells.{report-map-alone}
 use Rattle.rules.proofs.Check.{fine-passes}
 use Rattle.rules.proofs.Positions.{Next}
@@ -227,9 +228,8 @@ report-alike N n t u work A = (rw same (go (verdict N n 0 u (length work)) refl)
 
     go : (v : Verdict) → verdict N n 0 u (length work) ≡ v → reportAnswerOf N n t v ≡ reportAnswerOf N n u v
     go Verdict.fine e =
-        let P = fine-passes N n 0 t (length work) (same ∙ e) in
         let Q = fine-passes N n 0 u (length work) e in
-        let (c, f, o) = report-map-alone (valid-closed (P .valid)) (valid-closed (Q .valid)) (P .limits .darts .0) (λ i d hi hd. links N n t u A i d hi) in
+        let (c, f, o) = report-map-alone (alike-same (sym A)) (valid-closed (Q .valid)) (Q .limits .darts .0) in
         rw (counts c, f, o)
     go (Verdict.refused nr p) e = refl
 
