@@ -5,17 +5,17 @@ use Prim.Native.Nat.{ℕ, suc, _+_, _*_, _/_, _%_, _≤_, _<_}
 use mathlib.Core.Path.{_≡_, refl, ap, sym, _∙_}
 use mathlib.Core.Logic.{_≢_}
 use mathlib.Core.Bool.{Bool, cond}
-use mathlib.Core.List.{List}
+use mathlib.Core.List.{List, map}
 use native.Mathlib.Omega.{arith}
 use native.Mathlib.Decide.{ℕ-discrete, decLt}
 use native.Mathlib.Nat.{div-add-mod'}
-use lib.ListN.{length, getD, take}
+use lib.ListN.{List·getD-map, length, getD, take, length-map}
 use lib.Seq.{ext-getD, getD-take, length-take-le}
 use lib.Dec.{eqb}
 use borrow.Author.Tests.{eqb-true, eq-eqb, ne-eqb}
 use Rattle.rules.specs.Lists.{first}
 use Rattle.rules.specs.Map.{mark, size, place, link, Reached, Valid, Connected}
-use Rattle.rules.proofs.Lists.{not-both, first-passes, first-before, pigeonhole}
+use Rattle.rules.proofs.Lists.{not-both, first-passes, first-before, getD-any, pigeonhole}
 use Rattle.rules.proofs.Places.{place-below, place-rank, place-dart, nth-some, nth-rank, nth-dart, link-entry, link-none, Alike, link-alike}
 use Rattle.rules.proofs.Orbits.{Closed, valid-closed, reached-below}
 
@@ -25,6 +25,10 @@ pub record Carries (f : ℕ → ℕ) (N n : ℕ) (m m' : List ℕ) : Type 0 wher
   pub only : (d : ℕ) → f d < n → d < n
   pub once : (d e : ℕ) → d < n → e < n → f d ≡ f e → d ≡ e
   pub links : (i d : ℕ) → i ≤ N → d < n → link N n m' i (f d) ≡ f (link N n m i d)
+
+-- the entries of a renamed list, whatever stands past its end
+pub getD-mapped : (f : ℕ → ℕ) (l : List ℕ) (p x : ℕ) → p < length l → getD (map f l) p x ≡ f (getD l p x)
+getD-mapped f l p x h = getD-any (map f l) p x (f x) (omega (arith, length-map l f)) ∙ List·getD-map f l p x
 
 -- the dart that f takes to y, or n
 unfoldable pub back : (ℕ → ℕ) → ℕ → ℕ → ℕ
