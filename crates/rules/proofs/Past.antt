@@ -27,7 +27,7 @@ use Rattle.rules.specs.Report.{cells, cellCounts, reportAnswerOf, report
 use Rattle.rules.proofs.Lists.{below-same, some-same, first-same}
 use Rattle.rules.proofs.Places.{nth-some, nth-rank, Alike, blank-past}
 use Rattle.rules.proofs.Pairs.{nth, nth-fits, prefix-within}
-use Rattle.rules.proofs.Renamed.{SameLinks, same-sym, links-same, alike-same, same-alike}
+use Rattle.rules.proofs.Renamed.{SameLinks, same-sym, links-same, alike-same, SameMap, map-alike, alike-map}
 use Rattle.rules.proofs.Check.{fine-passes}
 use Rattle.rules.proofs.Positions.{Next}
 use Rattle.rules.specs.Inner.{Inv}
@@ -69,9 +69,9 @@ pairs-within N h6 k h =
 
 -- The calls that only read the tables: they look at the links alone, where the tables hold the map's entries.
 
-module _ {N n : ℕ} {t u : List ℕ} (S : SameLinks N n t u) (ht : size N n ≤ length t) (hu : size N n ≤ length u) where
+module _ {N n : ℕ} {t u : List ℕ} (S : SameMap N n t u) where
   links : (i d : ℕ) → i ≤ N → link N n t i d ≡ link N n u i d
-  links i d h = links-same S i d h
+  links i d h = links-same (S .links) i d h
 
   -- the links of the k-th link's rank, by rank, then dart
   nth-links : (k : ℕ) → k < size N n → (d : ℕ) → link N n t (k / n) d ≡ link N n u (k / n) d
@@ -144,13 +144,13 @@ module _ {N n : ℕ} {t u : List ℕ} (S : SameLinks N n t u) (ht : size N n ≤
 
       go : (b : Bool) → dimFits N ≡ b → refuseIf (not b) 1 0 (later t) ≡ refuseIf (not b) 1 0 (later u)
       go false q = unfold refuseIf in refl
-      go true q = unfold refuseIf in rw (le-ltb (length t) (size N n) ht, le-ltb (length u) (size N n) hu, tables-links (dim-fits N q .1) root)
+      go true q = unfold refuseIf in rw (le-ltb (length t) (size N n) (S .room), le-ltb (length u) (size N n) (S .room'), tables-links (dim-fits N q .1) root)
 
   -- where the check is fine the walk gives the same names
   names-links : (root room : ℕ) → verdict N n root u room ≡ Verdict.fine → namesOf N n t root ≡ namesOf N n u root
   names-links root room e =
       let P = fine-passes N n root u room e in
-      names-renamed (same-sym S) (P .limits .dims .1) (P .limits .darts .1) (P .connected .rooted) (P .valid) ∙ map-id (namesOf N n u root)
+      names-renamed (same-sym (S .links)) (P .limits .dims .1) (P .limits .darts .1) (P .connected .rooted) (P .valid) ∙ map-id (namesOf N n u root)
 
   -- the check gives the same answer and leaves the same work room
   pub check-links : (root : ℕ) (work : List ℕ) → (checkAnswer N n root t work ≡ checkAnswer N n root u work) × (checkWork N n root t work ≡ checkWork N n root u work)
@@ -177,7 +177,7 @@ module _ {N n : ℕ} {t u : List ℕ} (S : SameLinks N n t u) (ht : size N n ≤
       go : (v : Verdict) → verdict N n root u (length work) ≡ v
           → (writeAnswer N n root start t work out ≡ writeAnswer N n root start u work out)
           × (writeOut N n root start t work out ≡ writeOut N n root start u work out)
-      go Verdict.fine e = write-follows (same-sym S) root start work out ht e
+      go Verdict.fine e = write-follows (same-sym (S .links)) root start work out (S .room) e
       go (Verdict.refused nr p) e = unfold writeAnswer writeOut writePage writeVerdict startVerdict pageAfter writeAnswerOf in (rw (same, e), rw (same, e))
 
   -- the report gives the same answer and leaves the same work room
@@ -189,24 +189,24 @@ module _ {N n : ℕ} {t u : List ℕ} (S : SameLinks N n t u) (ht : size N n ≤
       same = verdict-links 0 (length work)
 
       go : (v : Verdict) → verdict N n 0 u (length work) ≡ v → reportAnswer N n t work ≡ reportAnswer N n u work
-      go Verdict.fine e = report-follows (same-sym S) work ht e
+      go Verdict.fine e = report-follows (same-sym (S .links)) work (S .room) e
       go (Verdict.refused nr p) e = unfold reportAnswer reportAnswerOf in rw (same, e)
 
 -- So what is past the entries is no matter: tables alike in the entries are one, or hold equal links.
 alike-links : (N n : ℕ) (X : List ℕ → List ℕ → Type 0) → ((l : List ℕ) → X l l)
-    → ((t u : List ℕ) → SameLinks N n t u → size N n ≤ length t → size N n ≤ length u → X t u) → (t u : List ℕ) → Alike (size N n) t u → X t u
+    → ((t u : List ℕ) → SameMap N n t u → X t u) → (t u : List ℕ) → Alike (size N n) t u → X t u
 alike-links N n X one two t u A = go (alike-cases (size N n) t u A)
   where
     go : (t ≡ u) ⊎ ((size N n ≤ length t) × (size N n ≤ length u)) → X t u
     go (inl e) = rw e (one u)
-    go (inr (h, h')) = two t u (alike-same A) h h'
+    go (inr (h, h')) = two t u (alike-map h h' A)
 
 -- the check
 pub check-alike : (N n root : ℕ) (t u work : List ℕ) → Alike (size N n) t u
     → (checkAnswer N n root t work ≡ checkAnswer N n root u work) × (checkWork N n root t work ≡ checkWork N n root u work)
 check-alike N n root t u work A =
     alike-links N n (λ t u. (checkAnswer N n root t work ≡ checkAnswer N n root u work) × (checkWork N n root t work ≡ checkWork N n root u work))
-    (λ l. (refl, refl)) (λ t u S h h'. check-links S h h' root work) t u A
+    (λ l. (refl, refl)) (λ t u S. check-links S root work) t u A
 
 -- the writer
 pub write-alike : (N n root start : ℕ) (t u work out : List ℕ) → Alike (size N n) t u
@@ -215,23 +215,20 @@ pub write-alike : (N n root start : ℕ) (t u work out : List ℕ) → Alike (si
 write-alike N n root start t u work out A =
     alike-links N n (λ t u. (writeAnswer N n root start t work out ≡ writeAnswer N n root start u work out) × (writeWork N n root t work ≡ writeWork N n root u work)
     × (writeOut N n root start t work out ≡ writeOut N n root start u work out))
-    (λ l. (refl, refl, refl)) (λ t u S h h'. write-links S h h' root start work out) t u A
+    (λ l. (refl, refl, refl)) (λ t u S. write-links S root start work out) t u A
 
 -- the report
 pub report-alike : (N n : ℕ) (t u work : List ℕ) → Alike (size N n) t u
     → (reportAnswer N n t work ≡ reportAnswer N n u work) × (reportWork N n t work ≡ reportWork N n u work)
 report-alike N n t u work A =
     alike-links N n (λ t u. (reportAnswer N n t work ≡ reportAnswer N n u work) × (reportWork N n t work ≡ reportWork N n u work))
-    (λ l. (refl, refl)) (λ t u S h h'. report-links S h h' work) t u A
+    (λ l. (refl, refl)) (λ t u S. report-links S work) t u A
 
 -- The reader: its walk carries along what stands behind its tables, so a call on longer tables is the call on the entries alone, with the rest carried along.
 
 -- more entries behind add no link
-past-same : {N n : ℕ} {m : List ℕ} (x : List ℕ) → size N n ≤ length m → SameLinks N n (m ++ x) m
-past-same {N} {n} {m} x h = alike-same (take-append-le (size N n) m x h)
-
-past-room : {k : ℕ} (m x : List ℕ) → k ≤ length m → k ≤ length (m ++ x)
-past-room {k} m x h = simp length-append (omega arith)
+past-same : {N n : ℕ} (m x : List ℕ) → size N n ≤ length m → SameMap N n (m ++ x) m
+past-same {N} {n} m x h = alike-map (simp length-append (omega arith)) h (take-append-le (size N n) m x h)
 
 -- a run with more entries behind
 unfoldable runTailed : List ℕ → Run → Run
@@ -317,7 +314,7 @@ module _ (w : Walk) (x : List ℕ) (h : size (w .dim) (w .darts) ≤ length (w .
   finish-tailed : w .dim ≤ 6 → (rest : List Bool) → finish (tailed w x) rest ≡ readingTailed x (finish w rest)
   unfolding finish manifold readingTailed tailed
   finish-tailed h6 rest =
-      rw (manifold-links {N = w .dim} {n = w .darts} {t = w .links ++ x} {u = w .links} (past-same x h) (past-room (w .links) x h) h h6)
+      rw (manifold-links {N = w .dim} {n = w .darts} {t = w .links ++ x} {u = w .links} (past-same (w .links) x h) h6)
       (test-tailed (eqb (w .count) (w .darts)) 15 _ _
       (test-tailed (manifold w) 16 _ _
       (test-tailed (eqb (value (take (length rest % 8) rest)) 0) 17 _ _
@@ -390,13 +387,12 @@ read-carried bytes m x h = rw (reading-carried (unpack bytes) m x h, closing-car
     (leaves-carried (closing (readingOf (unpack bytes) m) m) m x)
 
 -- what running and complete share is tested the same
-walk-fits-links : (s : Session) (t u : List ℕ) → SameLinks (s .dim) (s .darts) t u → size (s .dim) (s .darts) ≤ length t → size (s .dim) (s .darts) ≤ length u
-    → walkFits s t ≡ walkFits s u
+walk-fits-links : (s : Session) (t u : List ℕ) → SameMap (s .dim) (s .darts) t u → walkFits s t ≡ walkFits s u
 unfolding walkFits entriesFit
-walk-fits-links s t u S ht hu =
+walk-fits-links s t u S =
     let k = size (s .dim) (s .darts) in
-    let e = below-same k (entry t) (entry u) (λ k h. rw (nth-links S ht hu k h (k % s .darts))) in
-    rw (le-leb k (length t) ht, le-leb k (length u) hu, e)
+    let e = below-same k (entry t) (entry u) (λ k h. rw (nth-links S k h (k % s .darts))) in
+    rw (le-leb k (length t) (S .room), le-leb k (length u) (S .room'), e)
   where
     entry : List ℕ → ℕ → Bool
     entry l k = entryFits s (k / s .darts) (k % s .darts) (link (s .dim) (s .darts) l (k / s .darts) (k % s .darts))
@@ -414,7 +410,7 @@ module _ (s : Session) (seven : length (s .positions) ≡ 7) (ys : List Bool) (m
   fit-as-carried : (st : State) → reachAs st s ys ≤ length m → fitAs st s (m ++ x) ≡ fitAs st s m
   unfolding reachAs fitAs walkAt tailed
   fit-as-carried Header h = refl
-  fit-as-carried Running h = rw (walk-fits-links s (m ++ x) m (past-same x h) (past-room m x h) h) (go (walkFits s m) refl)
+  fit-as-carried Running h = rw (walk-fits-links s (m ++ x) m (past-same m x h)) (go (walkFits s m) refl)
     where
       tests : Bool → List ℕ → Bool
       tests b l = b && asks (walkOf s l) (head (walkOf s m)) && leb (s .waiting) 13 && valueFits s && begins (waitingOf s)
@@ -422,7 +418,7 @@ module _ (s : Session) (seven : length (s .positions) ≡ 7) (ys : List Bool) (m
       go : (b : Bool) → walkFits s m ≡ b → tests b (m ++ x) ≡ tests b m
       go false q = refl
       go true q = rw (asks-tailed (walkOf s m) x (fits-inv s m seven q .0))
-  fit-as-carried Complete h = rw (walk-fits-links s (m ++ x) m (past-same x h) (past-room m x h) h)
+  fit-as-carried Complete h = rw (walk-fits-links s (m ++ x) m (past-same m x h))
   fit-as-carried Closed h = refl
   fit-as-carried (Refused nr p) h = refl
 
@@ -535,3 +531,59 @@ unfolding readAnswer readTables leaves
 read-alike bytes t u A =
     let S = same-left (headerSize (unpack bytes)) (λ l. leaves (readWhole bytes l) l) (read-carried bytes) (read-past bytes) t u A in
     (S .answer, S .entries, S .past)
+
+-- The session's calls look at the lent tables' links alone.
+
+-- N and n of the map whose entries a call with these bits may touch, by the state: the session's or the header's; of a closed or refused session there is none
+unfoldable pub sizesAs : State → Session → List Bool → ℕ × ℕ
+sizesAs Header s ys =
+    let bits = waitingOf s ++ ys in
+    cond (leb 16 (length bits) && dimFits (headerDim bits)) (headerDim bits, headerDarts bits) (0, 0)
+sizesAs Running s ys = (s .dim, s .darts)
+sizesAs Complete s ys = (s .dim, s .darts)
+sizesAs Closed s ys = (0, 0)
+sizesAs (Refused nr p) s ys = (0, 0)
+
+-- by the session's own state; closing brings no bits
+unfoldable pub sizes : Session → List Bool → ℕ × ℕ
+sizes s ys = sizesAs (s .state) s ys
+
+sizes-reach : (s : Session) (ys : List Bool) → size (sizes s ys .0) (sizes s ys .1) ≡ reach s ys
+unfolding sizes reach
+sizes-reach s ys = go (s .state)
+  where
+    header : (b : Bool) (x : ℕ × ℕ) → size (cond b x (0, 0) .0) (cond b x (0, 0) .1) ≡ cond b (size (x .0) (x .1)) 0
+    header true x = refl
+    header false x = refl
+
+    go : (st : State) → size (sizesAs st s ys .0) (sizesAs st s ys .1) ≡ reachAs st s ys
+    go Header = unfold sizesAs reachAs headerSize in
+        let bits = waitingOf s ++ ys in
+        header (leb 16 (length bits) && dimFits (headerDim bits)) (headerDim bits, headerDarts bits)
+    go Running = unfold sizesAs reachAs in refl
+    go Complete = unfold sizesAs reachAs in refl
+    go Closed = unfold sizesAs reachAs in refl
+    go (Refused nr p) = unfold sizesAs reachAs in refl
+
+-- what a call leaves on them: the same record, the same answer, equal links
+pub record LinksLeft (N n : ℕ) (l l' : Left) : Type 0 where
+  pub session : l .session ≡ l' .session
+  pub answer : l .answer ≡ l' .answer
+  pub links : SameLinks N n (l .tables) (l' .tables)
+
+sizes-alike : (s : Session) (ys : List Bool) (t u : List ℕ) → SameMap (sizes s ys .0) (sizes s ys .1) t u → Alike (reach s ys) t u
+sizes-alike s ys t u S = rw (sizes-reach s ys) at (map-alike S)
+
+links-left : (s : Session) (ys : List Bool) (t : List ℕ) (l l' : Left) → SameLeft (reach s ys) t l l' → LinksLeft (sizes s ys .0) (sizes s ys .1) l l'
+links-left s ys t l l' L = record { session = L .session; answer = L .answer; links = alike-same (rw (sizes-reach s ys) (L .entries)) }
+
+pub fit-links : (s : Session) (t u : List ℕ) → length (s .positions) ≡ 7 → SameMap (sizes s [] .0) (sizes s [] .1) t u → fit s t ≡ fit s u
+fit-links s t u seven S = fit-alike s t u seven (sizes-alike s [] t u S)
+
+pub page-links : (s : Session) (bytes t u : List ℕ) → length (s .positions) ≡ 7 → SameMap (sizes s (unpack bytes) .0) (sizes s (unpack bytes) .1) t u
+    → LinksLeft (sizes s (unpack bytes) .0) (sizes s (unpack bytes) .1) (page s bytes t) (page s bytes u)
+page-links s bytes t u seven S = links-left s (unpack bytes) t _ _ (page-alike s bytes t u seven (sizes-alike s (unpack bytes) t u S))
+
+pub close-links : (s : Session) (t u : List ℕ) → length (s .positions) ≡ 7 → SameMap (sizes s [] .0) (sizes s [] .1) t u
+    → LinksLeft (sizes s [] .0) (sizes s [] .1) (close s t) (close s u)
+close-links s t u seven S = links-left s [] t _ _ (close-alike s t u seven (sizes-alike s [] t u S))

@@ -217,24 +217,34 @@ place-onto N n p h =
         let b = place-dart N n (k / n) (k % n) (l / n) (l % n) (dart k) (dart l) e in
         sym (div-add-mod' k n) ∙ (rw (a, b) (div-add-mod' l n))
 
--- Equal links are exactly equal entries, in tables that hold the map's.
+-- tables alike in a map's entries have equal links
 pub alike-same : {N n : ℕ} {t u : List ℕ} → Alike (size N n) t u → SameLinks N n t u
 alike-same {N} {n} {t} {u} A = same-links (λ i d hi h. link-alike N n t u i d hi A)
 
-pub same-alike : {N n : ℕ} {t u : List ℕ} → size N n ≤ length t → size N n ≤ length u → SameLinks N n t u → Alike (size N n) t u
-same-alike {N} {n} {t} {u} ht hu S = ext-getD mark (take k t) (take k u) (lt ∙ sym lu) (λ p h. one p (omega (arith, lt)))
+-- both tables hold a map's entries, and the links are equal: the two are one map
+pub record SameMap (N n : ℕ) (t u : List ℕ) : Type 0 where
+  pub links : SameLinks N n t u
+  pub room : size N n ≤ length t
+  pub room' : size N n ≤ length u
+
+-- that is, the entries are equal, and what is past them may differ
+pub alike-map : {N n : ℕ} {t u : List ℕ} → size N n ≤ length t → size N n ≤ length u → Alike (size N n) t u → SameMap N n t u
+alike-map h h' A = record { links = alike-same A; room = h; room' = h' }
+
+pub map-alike : {N n : ℕ} {t u : List ℕ} → SameMap N n t u → Alike (size N n) t u
+map-alike {N} {n} {t} {u} S = ext-getD mark (take k t) (take k u) (lt ∙ sym lu) (λ p h. one p (omega (arith, lt)))
   where
     k : ℕ
     k = size N n
 
     lt : length (take k t) ≡ k
-    lt = length-take-le k t ht
+    lt = length-take-le k t (S .room)
 
     lu : length (take k u) ≡ k
-    lu = length-take-le k u hu
+    lu = length-take-le k u (S .room')
 
     one : (p : ℕ) → p < k → getD (take k t) p mark ≡ getD (take k u) p mark
     one p h =
         let (i, d, hi, hd, e) = place-onto N n p h in
-        let q : getD t p mark ≡ getD u p mark = rw (link-entry N n t i d hd, link-entry N n u i d hd, e) at (links-same S i d hi) in
+        let q : getD t p mark ≡ getD u p mark = rw (link-entry N n t i d hd, link-entry N n u i d hd, e) at (links-same (S .links) i d hi) in
         getD-take k t p mark h ∙ (q ∙ sym (getD-take k u p mark h))
