@@ -112,6 +112,15 @@ module _ {f : ℕ → ℕ} {N n : ℕ} {m m' : List ℕ} (K : Carries f N n m m'
     links = λ i d hi h. L .links i (f d) hi (K .low d h) ∙ ap g (K .links i d hi h);
   }
 
+  -- a renaming is what it does to darts
+  pub carries-as : {g : ℕ → ℕ} → ((i d : ℕ) → i ≤ N → d < n → link N n m i d < n) → ((d : ℕ) → d < n → g d ≡ f d) → ((d : ℕ) → g d < n → d < n) → Carries g N n m m'
+  carries-as inside e only = record {
+    low = λ d h. rw (e d h) (K .low d h);
+    only = only;
+    once = λ d c h k q. K .once d c h k (sym (e d h) ∙ (q ∙ e c k));
+    links = λ i d hi h. rw (e d h, e (link N n m i d) (inside i d hi h)) (K .links i d hi h);
+  }
+
   -- what holds of m' holds of m
   inside-from : ((i d : ℕ) → i ≤ N → d < n → link N n m' i d < n) → (i d : ℕ) → i ≤ N → d < n → link N n m i d < n
   inside-from c i d hi h = K .only (link N n m i d) (rw (K .links i d hi h) at (c i (f d) hi (K .low d h)))
