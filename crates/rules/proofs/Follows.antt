@@ -1,19 +1,20 @@
--- The walk over a map follows a renaming of its darts: where f carries m to m', the walk over m' from f's root is step for step the walk over m from the root. It
--- writes the same symbols, and its names are the renamed ones. So the stream, the check's verdict and the numbering do. Rests on Renamed, Names and Check.
-use Prim.Native.Nat.{ℕ, zero, suc, _+_, _*_, _≤_, _<_}
+-- The walk over a map follows a renaming of its darts: where f carries m to m', the walk over m' from the root's new name is step for step the walk over m
+-- from the root. It writes the same symbols, and its names are the renamed ones. So the stream does not change, the check accepts both or neither, and
+-- writer and report answer the same. Rests on Renamed, Cells, Check and Numbering.
+use Prim.Native.Nat.{ℕ, zero, suc, _≤_, _<_}
 use mathlib.Core.Path.{_≡_, refl, ap, sym, _∙_}
-use mathlib.Core.Bool.{Bool, cond}
-use mathlib.Core.List.{List, [], _∷_, _++_, map, map-append, map-id}
+use mathlib.Core.Bool.{cond}
+use mathlib.Core.List.{List, [], _∷_, map, map-append, map-id}
 use native.Mathlib.Omega.{arith}
 use native.Mathlib.Decide.{ℕ-discrete}
 use lib.ListN.{length, getD, length-map}
 use lib.Dec.{eqb, leb}
 use borrow.Author.Tests.{eq-eqb, ne-eqb}
 use Rattle.rules.specs.Lists.{number, listOf}
-use Rattle.rules.specs.Map.{mark, size, link, Valid}
-use Rattle.rules.specs.Walk.{Walk, start, Head, head, Partner, partner, Symbol, enough, Written, symbolOf, named, writeSymbol, writeWith, writeAt, writeStep}
+use Rattle.rules.specs.Map.{mark, size, Valid}
+use Rattle.rules.specs.Walk.{Walk, start, Head, head, Partner, partner, Symbol, enough, Written, symbolOf, named, writeSymbol, writeWith}
+use Rattle.rules.specs.Walk.{writeAt, writeStep}
 use Rattle.rules.specs.Walk.{Walked, prepend, writeOn, write, walked, namesOf, symbolsOf}
-use Rattle.rules.specs.Stream.{header, codes, filled}
 use Rattle.rules.specs.Writing.{stream, startVerdict, writeVerdict, pageAfter, writePage, writeAnswer, writeOut}
 use Rattle.rules.specs.Report.{cells, cellCounts, reportAnswerOf, reportAnswer}
 use Rattle.rules.specs.Check.{Verdict, verdict}
@@ -63,7 +64,8 @@ step-renamed {f} {m} {m'} w names v M A K = go (head w) refl
     written j b x Symbol.border = unfold writeSymbol named renamedStep in refl
     written j b x (Symbol.index e) = unfold writeSymbol named renamedStep in refl
 
-    with' : (j b d x : ℕ) → d < w .darts → x < w .darts → (p : Partner) → writeWith w (map f names) j b (f d) (f x) p ≡ renamedStep f (writeWith w names j b d x p)
+    with' : (j b d x : ℕ) → d < w .darts → x < w .darts → (p : Partner)
+        → writeWith w (map f names) j b (f d) (f x) p ≡ renamedStep f (writeWith w names j b d x p)
     with' j b d x hd hx Partner.known = unfold writeWith renamedStep in refl
     with' j b d x hd hx (Partner.deduced e) = unfold writeWith renamedStep in refl
     with' j b d x hd hx Partner.asked = unfold writeWith in
@@ -78,7 +80,8 @@ step-renamed {f} {m} {m'} w names v M A K = go (head w) refl
         let hb = next-below w (v .shape) (v .links) j b n in
         let hd : getD names b mark < w .darts = M .low b hb in
         let e = getD-mapped f names b mark (omega (arith, M .len)) in
-        rw (e, K .links j (getD names b mark) (n .ranked) hd) (with' j b (getD names b mark) _ hd (A .inside j (getD names b mark) (n .ranked) hd) (partner w j b))
+        let hx = A .inside j (getD names b mark) (n .ranked) hd in
+        rw (e, K .links j (getD names b mark) (n .ranked) hd) (with' j b (getD names b mark) _ hd hx (partner w j b))
 
 -- and so every walk on its way
 pub write-renamed : {f : ℕ → ℕ} {m m' : List ℕ} {root : ℕ} (k : ℕ) (w : Walk) (names : List ℕ) → Inv w → Names m root w names → Valid (w .dim) (w .darts) m
@@ -105,7 +108,9 @@ module _ {f : ℕ → ℕ} {N n : ℕ} {m m' : List ℕ} (K : Carries f N n m m'
   -- the whole walk: the same symbols, the renamed names
   pub walk-renamed : walked N n m' (f root) ≡ renamed f (walked N n m root)
   unfolding walked
-  walk-renamed = write-renamed (enough N n) (start N n []) (root ∷ []) (start-inv N n [] (omega arith) hn h6) (start-names N n [] m root hr) (unfold start in A) (unfold start in K)
+  walk-renamed =
+      write-renamed (enough N n) (start N n []) (root ∷ []) (start-inv N n [] (omega arith) hn h6) (start-names N n [] m root hr)
+      (unfold start in A) (unfold start in K)
 
   pub symbols-renamed : symbolsOf N n m' (f root) ≡ symbolsOf N n m root
   unfolding symbolsOf renamed
@@ -123,6 +128,14 @@ module _ {f : ℕ → ℕ} {N n : ℕ} {m m' : List ℕ} (K : Carries f N n m m'
   -- a dart's walk number goes with it
   pub number-renamed : (d : ℕ) → d < n → number (namesOf N n m' (f root)) (f d) ≡ number (namesOf N n m root) d
   number-renamed d h = rw names-renamed (number-mapped f n (K .once) (namesOf N n m root) d (λ p l. unfold name in name-below N n m root h6 hn hr A p l) h)
+
+-- over equal links it is the same walk
+pub walk-links : {N n : ℕ} {m m' : List ℕ} → SameLinks N n m m' → N ≤ 6 → n ≤ 4096 → {root : ℕ} → root < n → Valid N n m
+    → walked N n m' root ≡ walked N n m root
+walk-links {N} {n} {m} S h6 hn {root} hr A = walk-renamed S h6 hn hr A ∙ unchanged (walked N n m root)
+  where
+    unchanged : (r : Walked) → renamed (λ d. d) r ≡ r
+    unchanged r = unfold renamed in λ i. record { symbols = r .symbols; names = map-id (r .names) i }
 
 -- The check accepts the one from a root exactly if it accepts the other from the root's new name.
 module _ {f : ℕ → ℕ} {N n : ℕ} {m m' : List ℕ} (K : Carries f N n m m') (root room : ℕ) where
@@ -168,7 +181,8 @@ module _ {f : ℕ → ℕ} {N n : ℕ} {m m' : List ℕ} (K : Carries f N n m m'
       × (writeOut N n (f root) start m' work out ≡ writeOut N n root start m work out)
   unfolding writeAnswer writeOut writePage
   write-follows =
-      let p : writePage N n (f root) start m' work out ≡ writePage N n root start m work out = rw judged-same (page-same (writeVerdict N n root start m (length work))) in
+      let p : writePage N n (f root) start m' work out ≡ writePage N n root start m work out =
+      rw judged-same (page-same (writeVerdict N n root start m (length work))) in
       (rw (p, stream-same, judged-same), rw p)
 
 -- where it is fine from dart 0 the report gives the same answer

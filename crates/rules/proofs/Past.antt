@@ -1,10 +1,11 @@
--- "A longer buffer is allowed, and what is past (N+1)·n is neither read nor written": on tables with the same (N+1)·n entries every call answers the same and
--- leaves the same there, and what is past them stays. Rests on Check, Cells and Tails for the calls that only read the tables, on Sessions for the others.
+-- The tables count by their links alone: on tables that hold the same links every call answers the same and leaves the same links. So "a longer buffer is
+-- allowed, and what is past (N+1)·n is neither read nor written": tables with the same (N+1)·n entries have the same links, and what is past them stays.
+-- Rests on Follows for the calls that only read the tables, on Sessions and Tails for the others.
 use Prim.Native.Nat.{ℕ, zero, suc, _+_, _*_, _/_, _%_, _≤_, _<_}
 use mathlib.Core.Path.{_≡_, refl, ap, sym, _∙_}
 use mathlib.Core.Logic.{_⊎_, inl, inr}
 use mathlib.Core.Bool.{Bool, true, false, not, _&&_, _||_, cond}
-use mathlib.Core.List.{List, [], _∷_, _++_, append-assoc, append-cancel-right, map-id}
+use mathlib.Core.List.{List, [], _∷_, _++_, append-assoc, append-cancel-right}
 use native.Mathlib.Omega.{arith}
 use native.Mathlib.Decide.{decLe}
 use lib.ListN.{length, getD, take, drop, length-append, length-take, take-append-drop}
@@ -17,13 +18,17 @@ use Rattle.rules.specs.declared.State.{State}
 use Rattle.rules.specs.declared.State.the-variants.{Header, Running, Complete, Closed, Refused}
 use Rattle.rules.specs.Lists.{listOf, someBelow, first}
 use Rattle.rules.specs.Map.{dimFits, dartsFit, size, link, pairs, pairsFor, pairsOf, pairAt, broken, firstBroken, allRanks, spread, within, reaches}
-use Rattle.rules.specs.Walk.{Walk, start, Head, head, unknown, Partner, partner, pass, tie, steps, Symbol, apply, enough, Walked, walked, namesOf, symbolsOf}
-use Rattle.rules.specs.Stream.{value, unpack, header, codes, filled, Taken, takeSymbol}
-use Rattle.rules.specs.Check.{Verdict, refuseIf, outside, twisted, unreached, tablesVerdict, verdict, numbering, workAfter, checkAnswerOf, checkAnswer, checkWork}
-use Rattle.rules.specs.Writing.{stream, startVerdict, writeVerdict, pageAfter, writeAnswerOf, writePage, writeAnswer, writeOut, writeWork}
-use Rattle.rules.specs.Reading.{Run, Step, permitted, fault, allow, stepTaken, stepWith, stepAt, step, onward, run, runAll, Reading, spoiled, test, manifold, finish, settle, begun, headerDim, headerDarts, readHeader, readingOf, closing, goodAnswer, answerOf, tablesOf, readWhole, readAnswer, readTables}
-use Rattle.rules.specs.Session.{idle, held, store, walkAt, walkOf, waitingOf, valueFits, entryFits, entriesFit, walkFits, asks, begins, fitAs, fit, Left, unchanged, leaves, goOn, afterEnd, pageAs, closeAs, ifFit, page, close}
-use Rattle.rules.specs.Report.{cells, cellCounts, reportAnswerOf, reportAnswer, reportWork}
+use Rattle.rules.specs.Walk.{Walk, start, Head, head, unknown, Partner, partner, pass, tie, steps, Symbol, apply, enough, Walked, namesOf}
+use Rattle.rules.specs.Stream.{value, unpack, Taken, takeSymbol}
+use Rattle.rules.specs.Check.{Verdict, refuseIf, outside, twisted, unreached, tablesVerdict, verdict, numbering, workAfter, checkAnswerOf}
+use Rattle.rules.specs.Check.{checkAnswer, checkWork}
+use Rattle.rules.specs.Writing.{startVerdict, writeVerdict, pageAfter, writeAnswerOf, writePage, writeAnswer, writeOut, writeWork}
+use Rattle.rules.specs.Reading.{Run, Step, permitted, fault, allow, stepTaken, stepWith, stepAt, step, onward, run, runAll, Reading, spoiled}
+use Rattle.rules.specs.Reading.{test, manifold, finish, settle, begun, headerDim, headerDarts, readHeader, readingOf, closing, goodAnswer}
+use Rattle.rules.specs.Reading.{answerOf, tablesOf, readWhole, readAnswer, readTables}
+use Rattle.rules.specs.Session.{idle, held, store, walkAt, walkOf, waitingOf, valueFits, entryFits, entriesFit, walkFits, asks, begins, fitAs}
+use Rattle.rules.specs.Session.{fit, Left, unchanged, leaves, goOn, afterEnd, pageAs, closeAs, ifFit, page, close}
+use Rattle.rules.specs.Report.{reportAnswerOf, reportAnswer, reportWork}
 use Rattle.rules.proofs.Lists.{below-same, some-same, first-same}
 use Rattle.rules.proofs.Places.{nth-some, nth-rank, Alike, blank-past}
 use Rattle.rules.proofs.Pairs.{nth, nth-fits, prefix-within}
@@ -37,7 +42,7 @@ use Rattle.rules.proofs.Runs.{moves-inv, Final, ran}
 use Rattle.rules.proofs.Readings.{dim-fits, header-darts}
 use Rattle.rules.proofs.Fitness.{Fits, fits-inv, running-part}
 use Rattle.rules.proofs.Sessions.{headerSize, reachAs, reach, page-past, close-past, read-past, reading-fits}
-use Rattle.rules.proofs.Follows.{names-renamed, write-follows, report-follows}
+use Rattle.rules.proofs.Follows.{walk-links, write-follows, report-follows}
 use Rattle.rules.proofs.Tails.{tailed, link-tailed, partner-tailed, deduced-tailed, apply-tailed}
 
 -- tables with the same first k entries are one, or each has k entries or more
@@ -148,12 +153,14 @@ module _ {N n : ℕ} {t u : List ℕ} (S : SameMap N n t u) where
 
   -- where the check is fine the walk gives the same names
   names-links : (root room : ℕ) → verdict N n root u room ≡ Verdict.fine → namesOf N n t root ≡ namesOf N n u root
+  unfolding namesOf
   names-links root room e =
       let P = fine-passes N n root u room e in
-      names-renamed (same-sym (S .links)) (P .limits .dims .1) (P .limits .darts .1) (P .connected .rooted) (P .valid) ∙ map-id (namesOf N n u root)
+      ap (λ (r : Walked). r .names) (walk-links (same-sym (S .links)) (P .limits .dims .1) (P .limits .darts .1) (P .connected .rooted) (P .valid))
 
   -- the check gives the same answer and leaves the same work room
-  pub check-links : (root : ℕ) (work : List ℕ) → (checkAnswer N n root t work ≡ checkAnswer N n root u work) × (checkWork N n root t work ≡ checkWork N n root u work)
+  pub check-links : (root : ℕ) (work : List ℕ)
+      → (checkAnswer N n root t work ≡ checkAnswer N n root u work) × (checkWork N n root t work ≡ checkWork N n root u work)
   unfolding checkAnswer checkWork
   check-links root work = (ap checkAnswerOf same, rw same (go (verdict N n root u (length work)) refl))
     where
@@ -213,8 +220,8 @@ pub write-alike : (N n root start : ℕ) (t u work out : List ℕ) → Alike (si
     → (writeAnswer N n root start t work out ≡ writeAnswer N n root start u work out) × (writeWork N n root t work ≡ writeWork N n root u work)
     × (writeOut N n root start t work out ≡ writeOut N n root start u work out)
 write-alike N n root start t u work out A =
-    alike-links N n (λ t u. (writeAnswer N n root start t work out ≡ writeAnswer N n root start u work out) × (writeWork N n root t work ≡ writeWork N n root u work)
-    × (writeOut N n root start t work out ≡ writeOut N n root start u work out))
+    alike-links N n (λ t u. (writeAnswer N n root start t work out ≡ writeAnswer N n root start u work out)
+    × (writeWork N n root t work ≡ writeWork N n root u work) × (writeOut N n root start t work out ≡ writeOut N n root start u work out))
     (λ l. (refl, refl, refl)) (λ t u S. write-links S root start work out) t u A
 
 -- the report

@@ -1,7 +1,7 @@
--- Renaming the darts of a map: f takes darts to darts, and every ai of one map to that of the other. What is reached, valid and connected follows a renaming, both
--- ways; equal links are the renaming that changes no dart, and they are exactly equal entries. Cells, Follows, Names and Past rest on this: one family of laws
--- says that walk, check, stream, report and reading look at a map's links only. Rests on Lists, Places and Orbits.
-use Prim.Native.Nat.{ℕ, suc, _+_, _*_, _/_, _%_, _≤_, _<_}
+-- Renaming the darts of a map: f takes darts to darts, and every ai of one map to that of the other. What is reached, valid and connected follows a
+-- renaming, both ways; equal links are the renaming that changes no dart, and they are exactly equal entries. Cells, Names, Follows, Past and Shapes rest
+-- on this: together they say that walk, check, stream, report and reading look at a map's links only. Rests on Lists, Places and Orbits.
+use Prim.Native.Nat.{ℕ, suc, _/_, _%_, _≤_, _<_}
 use mathlib.Core.Path.{_≡_, refl, ap, sym, _∙_}
 use mathlib.Core.Logic.{_≢_}
 use mathlib.Core.Bool.{Bool, cond}
@@ -113,7 +113,8 @@ module _ {f : ℕ → ℕ} {N n : ℕ} {m m' : List ℕ} (K : Carries f N n m m'
   }
 
   -- a renaming is what it does to darts
-  pub carries-as : {g : ℕ → ℕ} → ((i d : ℕ) → i ≤ N → d < n → link N n m i d < n) → ((d : ℕ) → d < n → g d ≡ f d) → ((d : ℕ) → g d < n → d < n) → Carries g N n m m'
+  pub carries-as : {g : ℕ → ℕ} → ((i d : ℕ) → i ≤ N → d < n → link N n m i d < n) → ((d : ℕ) → d < n → g d ≡ f d) → ((d : ℕ) → g d < n → d < n)
+      → Carries g N n m m'
   carries-as inside e only = record {
     low = λ d h. rw (e d h) (K .low d h);
     only = only;

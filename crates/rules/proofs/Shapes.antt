@@ -1,7 +1,8 @@
--- One stream for one shape: two valid connected maps, each with a root, have equal streams exactly if a matching carries links to links and root to root; and that
--- matching takes each dart to the one of the same walk number, so there is one at most. Both maps are read back from the one stream. Rests on Follows and Complete.
+-- One stream for one shape: two valid connected maps, each with a root, have equal streams exactly if a matching carries links to links and root to root.
+-- That matching takes each dart to the one of the same walk number, so there is one at most. Equal streams are read back to the same tables, which are
+-- both maps under their walk numbers. Rests on Follows and Complete.
 use Prim.Native.Nat.{ℕ, _+_, _≤_, _<_}
-use mathlib.Core.Path.{_≡_, refl, ap, sym, _∙_}
+use mathlib.Core.Path.{_≡_, ap, sym, _∙_}
 use mathlib.Core.List.{List}
 use native.Mathlib.Omega.{arith}
 use native.Mathlib.Decide.{decLt}
@@ -14,9 +15,9 @@ use Rattle.rules.specs.Walk.{namesOf}
 use Rattle.rules.specs.Writing.{stream}
 use Rattle.rules.proofs.Renamed.{Carries, back, onto, carries-back, carries-then, carries-as}
 use Rattle.rules.proofs.Names.{name, Renumbered}
-use Rattle.rules.proofs.Numbering.{name-number, name-below, names-all, name-root, number-root, reaches-numbered}
+use Rattle.rules.proofs.Numbering.{name-number, names-all, name-root, number-root, reaches-numbered}
 use Rattle.rules.proofs.Follows.{stream-renamed, number-renamed}
-use Rattle.rules.proofs.Complete.{Returned, complete}
+use Rattle.rules.proofs.Complete.{complete}
 
 -- a matching of two maps: it carries every ai of the one to the other, and root to root
 pub record Matched (N n : ℕ) (m : List ℕ) (root N' n' : ℕ) (m' : List ℕ) (root' : ℕ) : Type 0 where
@@ -94,7 +95,9 @@ module _ {N n : ℕ} {m : List ℕ} {root N' n' : ℕ} {m' : List ℕ} {root' : 
 
   sizes : stream N n m root ≡ stream N' n' m' root' → (N ≡ N') × (n ≡ n')
   sizes e =
-      let p = sym (complete N n m root lent room A C .answer) ∙ (ap (λ (b : List ℕ). readAnswer b lent) e ∙ complete N' n' m' root' lent room' A' C' .answer) in
+      let a = complete N n m root lent room A C .answer in
+      let a' = complete N' n' m' root' lent room' A' C' .answer in
+      let p = sym a ∙ (ap (λ (b : List ℕ). readAnswer b lent) e ∙ a') in
       (ap (λ (a : ReadAnswer). a .dim) p, ap (λ (a : ReadAnswer). a .darts) p)
 
   streams-match : stream N n m root ≡ stream N' n' m' root' → Matched N n m root N' n' m' root'
@@ -103,12 +106,14 @@ module _ {N n : ℕ} {m : List ℕ} {root N' n' : ℕ} {m' : List ℕ} {root' : 
       let B : Valid N n m' = rw (eN, en) A' in
       let D : Connected N n m' root' = rw (eN, en) C' in
       let q : stream N n m' root' ≡ stream N' n' m' root' = λ i. stream (eN i) (en i) m' root' in
-      let R' : Renumbered N n m' (readTables (stream N n m root) lent) (namesOf N n m' root') = rw (e ∙ sym q) (complete N n m' root' lent room B D .renumbered) in
+      let R = complete N n m root lent room A C .renumbered in
+      let R' : Renumbered N n m' (readTables (stream N n m root) lent) (namesOf N n m' root') =
+      rw (e ∙ sym q) (complete N n m' root' lent room B D .renumbered) in
       record {
         dim = eN;
         darts = en;
         match = sameNumber N n m root m' root';
-        carries = carries-number (L .dims .1) (L .darts .1) A C B D _ (complete N n m root lent room A C .renumbered) R';
+        carries = carries-number (L .dims .1) (L .darts .1) A C B D _ R R';
         rooted = number-rooted (L .dims .1) (L .darts .1) A C B D;
       }
 
