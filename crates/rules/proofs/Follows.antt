@@ -54,7 +54,7 @@ module _ (f : ℕ → ℕ) (n : ℕ) (once : (d e : ℕ) → d < n → e < n →
       rw (eqb-renamed y x (low 0 (omega arith)) hx, number-mapped names x (λ p h. low (suc p) (omega arith)) hx)
 
 -- one step: the same symbols, the same walk, the renamed names
-step-renamed : {f : ℕ → ℕ} {m m' : List ℕ} {root : ℕ} (w : Walk) (names : List ℕ) → Inv w → Names m root w names → Valid (w .dim) (w .darts) m
+pub step-renamed : {f : ℕ → ℕ} {m m' : List ℕ} {root : ℕ} (w : Walk) (names : List ℕ) → Inv w → Names m root w names → Valid (w .dim) (w .darts) m
     → Carries f (w .dim) (w .darts) m m' → writeStep m' w (map f names) ≡ renamedStep f (writeStep m w names)
 unfolding writeStep
 step-renamed {f} {m} {m'} w names v M A K = go (head w) refl
