@@ -1,5 +1,6 @@
--- "A longer buffer is allowed, and what is past (N+1)·n is neither read nor written": on tables with the same (N+1)·n entries every call answers the same and
--- leaves the same there, and what is past them stays. Rests on Check, Cells and Tails for the calls that only read the tables, on Sessions for the others.
+-- The tables count by their links alone: on tables that hold the same links every call answers the same and leaves the same links. So "a longer buffer is
+-- allowed, and what is past (N+1)·n is neither read nor written": tables with the same (N+1)·n entries have the same links, and what is past them stays.
+-- Rests on Follows for the calls that only read the tables, on Sessions and Tails for the others.
 use Prim.Native.Nat.{ℕ, zero, suc, _+_, _*_, _/_, _%_, _≤_, _<_}
 use mathlib.Core.Path.{_≡_, refl, ap, sym, _∙_}
 use mathlib.Core.Logic.{_⊎_, inl, inr}
@@ -17,18 +18,21 @@ use Rattle.rules.specs.declared.State.{State}
 use Rattle.rules.specs.declared.State.the-variants.{Header, Running, Complete, Closed, Refused}
 use Rattle.rules.specs.Lists.{listOf, someBelow, first}
 use Rattle.rules.specs.Map.{dimFits, dartsFit, size, link, pairs, pairsFor, pairsOf, pairAt, broken, firstBroken, allRanks, spread, within, reaches}
-use Rattle.rules.specs.Walk.{Walk, start, Head, head, unknown, Partner, partner, pass, tie, steps, Symbol, apply, enough, Walked, walked, namesOf, symbolsOf}
-use Rattle.rules.specs.Stream.{value, unpack, header, codes, filled, Taken, takeSymbol}
-use Rattle.rules.specs.Check.{Verdict, refuseIf, outside, twisted, unreached, tablesVerdict, verdict, numbering, workAfter, checkAnswerOf, checkAnswer, checkWork}
-use Rattle.rules.specs.Writing.{stream, startVerdict, writeVerdict, pageAfter, writeAnswerOf, writePage, writeAnswer, writeOut, writeWork}
-use Rattle.rules.specs.Reading.{Run, Step, permitted, fault, allow, stepTaken, stepWith, stepAt, step, onward, run, runAll, Reading, spoiled, test, manifold, finish, settle, begun, headerDim, headerDarts, readHeader, readingOf, closing, goodAnswer, answerOf, tablesOf, readWhole, readAnswer, readTables}
-use Rattle.rules.specs.Session.{idle, held, store, walkAt, walkOf, waitingOf, valueFits, entryFits, entriesFit, walkFits, asks, begins, fitAs, fit, Left, unchanged, leaves, goOn, afterEnd, pageAs, closeAs, ifFit, page, close}
-use Rattle.rules.specs.Report.{cells, cellCounts, reportAnswerOf, reportAnswer, reportWork}
+use Rattle.rules.specs.Walk.{Walk, start, Head, head, unknown, Partner, partner, pass, tie, steps, Symbol, apply, enough, Walked, namesOf}
+use Rattle.rules.specs.Stream.{value, unpack, Taken, takeSymbol}
+use Rattle.rules.specs.Check.{Verdict, refuseIf, outside, twisted, unreached, tablesVerdict, verdict, numbering, workAfter, checkAnswerOf}
+use Rattle.rules.specs.Check.{checkAnswer, checkWork}
+use Rattle.rules.specs.Writing.{startVerdict, writeVerdict, pageAfter, writeAnswerOf, writePage, writeAnswer, writeOut, writeWork}
+use Rattle.rules.specs.Reading.{Run, Step, permitted, fault, allow, stepTaken, stepWith, stepAt, step, onward, run, runAll, Reading, spoiled}
+use Rattle.rules.specs.Reading.{test, manifold, finish, settle, begun, headerDim, headerDarts, readHeader, readingOf, closing, goodAnswer}
+use Rattle.rules.specs.Reading.{answerOf, tablesOf, readWhole, readAnswer, readTables}
+use Rattle.rules.specs.Session.{idle, held, store, walkAt, walkOf, waitingOf, valueFits, entryFits, entriesFit, walkFits, asks, begins, fitAs}
+use Rattle.rules.specs.Session.{fit, Left, unchanged, leaves, goOn, afterEnd, pageAs, closeAs, ifFit, page, close}
+use Rattle.rules.specs.Report.{reportAnswerOf, reportAnswer, reportWork}
 use Rattle.rules.proofs.Lists.{below-same, some-same, first-same}
-use Rattle.rules.proofs.Places.{nth-some, nth-rank, Alike, link-alike, blank-past}
+use Rattle.rules.proofs.Places.{nth-some, nth-rank, Alike, blank-past}
 use Rattle.rules.proofs.Pairs.{nth, nth-fits, prefix-within}
-use Rattle.rules.proofs.Orbits.{valid-closed}
-use Rattle.rules.proofs.Cells.{report-map-alone}
+use Rattle.rules.proofs.Renamed.{SameLinks, same-sym, links-same, alike-same, SameMap, map-alike, alike-map}
 use Rattle.rules.proofs.Check.{fine-passes}
 use Rattle.rules.proofs.Positions.{Next}
 use Rattle.rules.specs.Inner.{Inv}
@@ -38,7 +42,8 @@ use Rattle.rules.proofs.Runs.{moves-inv, Final, ran}
 use Rattle.rules.proofs.Readings.{dim-fits, header-darts}
 use Rattle.rules.proofs.Fitness.{Fits, fits-inv, running-part}
 use Rattle.rules.proofs.Sessions.{headerSize, reachAs, reach, page-past, close-past, read-past, reading-fits}
-use Rattle.rules.proofs.Tails.{tailed, link-tailed, partner-tailed, deduced-tailed, apply-tailed, walked-alike}
+use Rattle.rules.proofs.Follows.{walk-links, write-follows, report-follows}
+use Rattle.rules.proofs.Tails.{tailed, link-tailed, partner-tailed, deduced-tailed, apply-tailed}
 
 -- tables with the same first k entries are one, or each has k entries or more
 alike-cases : (k : ℕ) (t u : List ℕ) → Alike k t u → (t ≡ u) ⊎ ((k ≤ length t) × (k ≤ length u))
@@ -67,60 +72,48 @@ pairs-within N h6 k h =
     let (a, b) = nth-fits N k h6 l in
     rw (getD-take (pairsFor N) pairs k (record { low = 0; high = 0 }) l) ((omega arith, b))
 
--- The calls that only read the tables.
+-- The calls that only read the tables: they look at the links alone, where the tables hold the map's entries.
 
-module _ (N n : ℕ) (t u : List ℕ) (A : Alike (size N n) t u) where
-  -- the links are the same
+module _ {N n : ℕ} {t u : List ℕ} (S : SameMap N n t u) where
   links : (i d : ℕ) → i ≤ N → link N n t i d ≡ link N n u i d
-  links i d h = link-alike N n t u i d h A
-
-  -- a test of the length that every length from (N+1)·n on answers alike
-  room-same : (f : ℕ → Bool) (b : Bool) → ((l : ℕ) → size N n ≤ l → f l ≡ b) → f (length t) ≡ f (length u)
-  room-same f b p = alike-by (size N n) (λ l. f (length l)) (λ m x h. p (length (m ++ x)) (simp length-append (omega arith)) ∙ sym (p (length m) h)) t u A
-
-  -- whether the tables hold the entries: 3 of the check, and the room of a fit session
-  short-alike : ltb (length t) (size N n) ≡ ltb (length u) (size N n)
-  short-alike = room-same (λ l. ltb l (size N n)) false (λ l h. le-ltb l (size N n) h)
-
-  room-alike : leb (size N n) (length t) ≡ leb (size N n) (length u)
-  room-alike = room-same (λ l. leb (size N n) l) true (λ l h. le-leb (size N n) l h)
+  links i d h = links-same (S .links) i d h
 
   -- the links of the k-th link's rank, by rank, then dart
-  nth-alike : (k : ℕ) → k < size N n → (d : ℕ) → link N n t (k / n) d ≡ link N n u (k / n) d
-  nth-alike k h d = links (k / n) d (nth-rank N n k (nth-some N n k h) h)
+  nth-links : (k : ℕ) → k < size N n → (d : ℕ) → link N n t (k / n) d ≡ link N n u (k / n) d
+  nth-links k h d = links (k / n) d (nth-rank N n k (nth-some N n k h) h)
 
   -- 6, 7, 8 and 9 are found at the same place
-  outside-alike : first (outside N n t) (size N n) ≡ first (outside N n u) (size N n)
+  outside-links : first (outside N n t) (size N n) ≡ first (outside N n u) (size N n)
   unfolding outside
-  outside-alike = first-same (outside N n t) (outside N n u) (size N n) (λ k h. rw (nth-alike k h (k % n)))
+  outside-links = first-same (outside N n t) (outside N n u) (size N n) (λ k h. rw (nth-links k h (k % n)))
 
-  twisted-alike : first (twisted N n t) (size N n) ≡ first (twisted N n u) (size N n)
+  twisted-links : first (twisted N n t) (size N n) ≡ first (twisted N n u) (size N n)
   unfolding twisted
-  twisted-alike = first-same (twisted N n t) (twisted N n u) (size N n) (λ k h. rw (nth-alike k h (k % n), nth-alike k h (link N n u (k / n) (k % n))))
+  twisted-links = first-same (twisted N n t) (twisted N n u) (size N n) (λ k h. rw (nth-links k h (k % n), nth-links k h (link N n u (k / n) (k % n))))
 
-  broken-alike : (p : Pair) → (p .low ≤ N) × (p .high ≤ N) → (d : ℕ) → broken N n t p d ≡ broken N n u p d
+  broken-links : (p : Pair) → (p .low ≤ N) × (p .high ≤ N) → (d : ℕ) → broken N n t p d ≡ broken N n u p d
   unfolding broken
-  broken-alike p (l, h) d =
+  broken-links p (l, h) d =
       let x = link N n u (p .low) d in
       let y = link N n u (p .high) x in
       let z = link N n u (p .low) y in
       rw (links (p .low) d l, links (p .high) x h, links (p .low) y l, links (p .high) z h)
 
-  firstBroken-alike : (ps : List Pair) → ((k : ℕ) → k < length ps → (nth ps k .low ≤ N) × (nth ps k .high ≤ N)) → firstBroken N n t ps ≡ firstBroken N n u ps
+  firstBroken-links : (ps : List Pair) → ((k : ℕ) → k < length ps → (nth ps k .low ≤ N) × (nth ps k .high ≤ N)) → firstBroken N n t ps ≡ firstBroken N n u ps
   unfolding firstBroken nth
-  firstBroken-alike [] f = refl
-  firstBroken-alike (p ∷ ps) f =
-      let e = first-same (broken N n t p) (broken N n u p) n (λ d l. broken-alike p (f 0 (omega arith)) d) in
-      let r = firstBroken-alike ps (λ k l. f (suc k) (omega arith)) in
+  firstBroken-links [] f = refl
+  firstBroken-links (p ∷ ps) f =
+      let e = first-same (broken N n t p) (broken N n u p) n (λ d l. broken-links p (f 0 (omega arith)) d) in
+      let r = firstBroken-links ps (λ k l. f (suc k) (omega arith)) in
       λ j. elim (ltb (e j) n) as (λ _. ℕ) [ true ↦ e j | false ↦ r j ]
 
-  manifold-alike : N ≤ 6 → firstBroken N n t (pairsOf N) ≡ firstBroken N n u (pairsOf N)
-  manifold-alike h6 = firstBroken-alike (pairsOf N) (pairs-within N h6)
+  manifold-links : N ≤ 6 → firstBroken N n t (pairsOf N) ≡ firstBroken N n u (pairsOf N)
+  manifold-links h6 = firstBroken-links (pairsOf N) (pairs-within N h6)
 
   -- what is reached is the same
-  spread-alike : (keep : ℕ → Bool) (marks : List Bool) → spread keep N n t marks ≡ spread keep N n u marks
+  spread-links : (keep : ℕ → Bool) (marks : List Bool) → spread keep N n t marks ≡ spread keep N n u marks
   unfolding spread
-  spread-alike keep marks = ap (listOf n) (λ j d. one d j)
+  spread-links keep marks = ap (listOf n) (λ j d. one d j)
     where
       near : List ℕ → ℕ → ℕ → Bool
       near l d i = keep i && getD marks (link N n l i d) false
@@ -128,23 +121,23 @@ module _ (N n : ℕ) (t u : List ℕ) (A : Alike (size N n) t u) where
       one : (d : ℕ) → (getD marks d false || someBelow (suc N) (near t d)) ≡ (getD marks d false || someBelow (suc N) (near u d))
       one d = ap (λ (b : Bool). getD marks d false || b) (some-same (suc N) (near t d) (near u d) (λ i h. rw (links i d (omega arith))))
 
-  within-alike : (keep : ℕ → Bool) (d k : ℕ) → within keep N n t d k ≡ within keep N n u d k
+  within-links : (keep : ℕ → Bool) (d k : ℕ) → within keep N n t d k ≡ within keep N n u d k
   unfolding within
-  within-alike keep d zero = refl
-  within-alike keep d (suc k) = ap (spread keep N n t) (within-alike keep d k) ∙ spread-alike keep (within keep N n u d k)
+  within-links keep d zero = refl
+  within-links keep d (suc k) = ap (spread keep N n t) (within-links keep d k) ∙ spread-links keep (within keep N n u d k)
 
-  unreached-alike : (root : ℕ) → first (unreached N n t root) n ≡ first (unreached N n u root) n
+  unreached-links : (root : ℕ) → first (unreached N n t root) n ≡ first (unreached N n u root) n
   unfolding unreached reaches
-  unreached-alike root = first-same (unreached N n t root) (unreached N n u root) n (λ d h. rw (within-alike allRanks root n))
+  unreached-links root = first-same (unreached N n t root) (unreached N n u root) n (λ d h. rw (within-links allRanks root n))
 
   -- so the verdict is the same, with any numbers
-  tables-alike : N ≤ 6 → (root : ℕ) → tablesVerdict N n root t ≡ tablesVerdict N n root u
+  tables-links : N ≤ 6 → (root : ℕ) → tablesVerdict N n root t ≡ tablesVerdict N n root u
   unfolding tablesVerdict
-  tables-alike h6 root = rw (outside-alike, twisted-alike, manifold-alike h6, unreached-alike root)
+  tables-links h6 root = rw (outside-links, twisted-links, manifold-links h6, unreached-links root)
 
-  pub verdict-alike : (root room : ℕ) → verdict N n root t room ≡ verdict N n root u room
+  pub verdict-links : (root room : ℕ) → verdict N n root t room ≡ verdict N n root u room
   unfolding verdict
-  verdict-alike root room = go (dimFits N) refl
+  verdict-links root room = go (dimFits N) refl
     where
       later : List ℕ → Verdict
       later l =
@@ -156,84 +149,93 @@ module _ (N n : ℕ) (t u : List ℕ) (A : Alike (size N n) t u) where
 
       go : (b : Bool) → dimFits N ≡ b → refuseIf (not b) 1 0 (later t) ≡ refuseIf (not b) 1 0 (later u)
       go false q = unfold refuseIf in refl
-      go true q = unfold refuseIf in rw (short-alike, tables-alike (dim-fits N q .1) root)
+      go true q = unfold refuseIf in rw (le-ltb (length t) (size N n) (S .room), le-ltb (length u) (size N n) (S .room'), tables-links (dim-fits N q .1) root)
 
-  -- where the check is fine the walk over the map is the same, and so are its names and the stream
-  walk-alike : (root room : ℕ) → verdict N n root u room ≡ Verdict.fine → walked N n t root ≡ walked N n u root
-  walk-alike root room e =
-      let P = fine-passes N n root u room e in
-      walked-alike N n u t root (P .limits .dims .1) (P .limits .darts .1) (P .connected .rooted) (P .valid) A
-
-  names-alike : (root room : ℕ) → verdict N n root u room ≡ Verdict.fine → namesOf N n t root ≡ namesOf N n u root
+  -- where the check is fine the walk gives the same names
+  names-links : (root room : ℕ) → verdict N n root u room ≡ Verdict.fine → namesOf N n t root ≡ namesOf N n u root
   unfolding namesOf
-  names-alike root room e = ap (λ (r : Walked). r .names) (walk-alike root room e)
+  names-links root room e =
+      let P = fine-passes N n root u room e in
+      ap (λ (r : Walked). r .names) (walk-links (same-sym (S .links)) (P .limits .dims .1) (P .limits .darts .1) (P .connected .rooted) (P .valid))
 
-  stream-alike : (root room : ℕ) → verdict N n root u room ≡ Verdict.fine → stream N n t root ≡ stream N n u root
-  unfolding stream symbolsOf
-  stream-alike root room e = ap (λ (r : Walked). filled (header N n ++ codes (r .symbols))) (walk-alike root room e)
+  -- the check gives the same answer and leaves the same work room
+  pub check-links : (root : ℕ) (work : List ℕ)
+      → (checkAnswer N n root t work ≡ checkAnswer N n root u work) × (checkWork N n root t work ≡ checkWork N n root u work)
+  unfolding checkAnswer checkWork
+  check-links root work = (ap checkAnswerOf same, rw same (go (verdict N n root u (length work)) refl))
+    where
+      same : verdict N n root t (length work) ≡ verdict N n root u (length work)
+      same = verdict-links root (length work)
 
--- the check gives the same answer and leaves the same work room
+      go : (v : Verdict) → verdict N n root u (length work) ≡ v → workAfter N n root t work v ≡ workAfter N n root u work v
+      go Verdict.fine e = unfold workAfter numbering in rw (names-links root (length work) e)
+      go (Verdict.refused nr p) e = unfold workAfter in refl
+
+  -- the writer gives the same answer and leaves the same work room and output
+  pub write-links : (root start : ℕ) (work out : List ℕ)
+      → (writeAnswer N n root start t work out ≡ writeAnswer N n root start u work out) × (writeWork N n root t work ≡ writeWork N n root u work)
+      × (writeOut N n root start t work out ≡ writeOut N n root start u work out)
+  unfolding writeWork
+  write-links root start work out = let (a, o) = go (verdict N n root u (length work)) refl in (a, check-links root work .1, o)
+    where
+      same : verdict N n root t (length work) ≡ verdict N n root u (length work)
+      same = verdict-links root (length work)
+
+      go : (v : Verdict) → verdict N n root u (length work) ≡ v
+          → (writeAnswer N n root start t work out ≡ writeAnswer N n root start u work out)
+          × (writeOut N n root start t work out ≡ writeOut N n root start u work out)
+      go Verdict.fine e = write-follows (same-sym (S .links)) root start work out (S .room) e
+      go (Verdict.refused nr p) e = unfold writeAnswer writeOut writePage writeVerdict startVerdict pageAfter writeAnswerOf in (rw (same, e), rw (same, e))
+
+  -- the report gives the same answer and leaves the same work room
+  pub report-links : (work : List ℕ) → (reportAnswer N n t work ≡ reportAnswer N n u work) × (reportWork N n t work ≡ reportWork N n u work)
+  unfolding reportWork
+  report-links work = (go (verdict N n 0 u (length work)) refl, rw same)
+    where
+      same : verdict N n 0 t (length work) ≡ verdict N n 0 u (length work)
+      same = verdict-links 0 (length work)
+
+      go : (v : Verdict) → verdict N n 0 u (length work) ≡ v → reportAnswer N n t work ≡ reportAnswer N n u work
+      go Verdict.fine e = report-follows (same-sym (S .links)) work (S .room) e
+      go (Verdict.refused nr p) e = unfold reportAnswer reportAnswerOf in rw (same, e)
+
+-- So what is past the entries is no matter: tables alike in the entries are one, or hold equal links.
+alike-links : (N n : ℕ) (X : List ℕ → List ℕ → Type 0) → ((l : List ℕ) → X l l)
+    → ((t u : List ℕ) → SameMap N n t u → X t u) → (t u : List ℕ) → Alike (size N n) t u → X t u
+alike-links N n X one two t u A = go (alike-cases (size N n) t u A)
+  where
+    go : (t ≡ u) ⊎ ((size N n ≤ length t) × (size N n ≤ length u)) → X t u
+    go (inl e) = rw e (one u)
+    go (inr (h, h')) = two t u (alike-map h h' A)
+
+-- the check
 pub check-alike : (N n root : ℕ) (t u work : List ℕ) → Alike (size N n) t u
     → (checkAnswer N n root t work ≡ checkAnswer N n root u work) × (checkWork N n root t work ≡ checkWork N n root u work)
-unfolding checkAnswer checkWork
-check-alike N n root t u work A = (ap checkAnswerOf same, rw same (go (verdict N n root u (length work)) refl))
-  where
-    same : verdict N n root t (length work) ≡ verdict N n root u (length work)
-    same = verdict-alike N n t u A root (length work)
+check-alike N n root t u work A =
+    alike-links N n (λ t u. (checkAnswer N n root t work ≡ checkAnswer N n root u work) × (checkWork N n root t work ≡ checkWork N n root u work))
+    (λ l. (refl, refl)) (λ t u S. check-links S root work) t u A
 
-    go : (v : Verdict) → verdict N n root u (length work) ≡ v → workAfter N n root t work v ≡ workAfter N n root u work v
-    go Verdict.fine e = unfold workAfter numbering in rw (names-alike N n t u A root (length work) e)
-    go (Verdict.refused nr p) e = unfold workAfter in refl
-
--- the writer gives the same answer and leaves the same work room and output
+-- the writer
 pub write-alike : (N n root start : ℕ) (t u work out : List ℕ) → Alike (size N n) t u
     → (writeAnswer N n root start t work out ≡ writeAnswer N n root start u work out) × (writeWork N n root t work ≡ writeWork N n root u work)
     × (writeOut N n root start t work out ≡ writeOut N n root start u work out)
-unfolding writeAnswer writeWork writeOut writePage writeVerdict
-write-alike N n root start t u work out A = let (a, o) = go (verdict N n root u (length work)) refl in (a, check-alike N n root t u work A .1, o)
-  where
-    same : verdict N n root t (length work) ≡ verdict N n root u (length work)
-    same = verdict-alike N n t u A root (length work)
+write-alike N n root start t u work out A =
+    alike-links N n (λ t u. (writeAnswer N n root start t work out ≡ writeAnswer N n root start u work out)
+    × (writeWork N n root t work ≡ writeWork N n root u work) × (writeOut N n root start t work out ≡ writeOut N n root start u work out))
+    (λ l. (refl, refl, refl)) (λ t u S. write-links S root start work out) t u A
 
-    page : stream N n t root ≡ stream N n u root → (v : Verdict) → pageAfter N n root start t (length out) v ≡ pageAfter N n root start u (length out) v
-    page e Verdict.fine = unfold pageAfter in rw e
-    page e (Verdict.refused nr p) = unfold pageAfter in refl
-
-    judged : verdict N n root u (length work) ≡ Verdict.fine → stream N n t root ≡ stream N n u root
-        → writeVerdict N n root start t (length work) ≡ writeVerdict N n root start u (length work)
-    judged e s = unfold startVerdict in rw (same, e, s)
-
-    go : (v : Verdict) → verdict N n root u (length work) ≡ v
-        → (writeAnswer N n root start t work out ≡ writeAnswer N n root start u work out)
-        × (writeOut N n root start t work out ≡ writeOut N n root start u work out)
-    go Verdict.fine e =
-        let s = stream-alike N n t u A root (length work) e in
-        let v = judged e s in
-        let p : writePage N n root start t work out ≡ writePage N n root start u work out = rw v (page s (writeVerdict N n root start u (length work))) in
-        (rw (p, s, v), rw p)
-    go (Verdict.refused nr p) e = unfold startVerdict pageAfter writeAnswerOf in (rw (same, e), rw (same, e))
-
--- the report gives the same answer and leaves the same work room
+-- the report
 pub report-alike : (N n : ℕ) (t u work : List ℕ) → Alike (size N n) t u
     → (reportAnswer N n t work ≡ reportAnswer N n u work) × (reportWork N n t work ≡ reportWork N n u work)
-unfolding reportAnswer reportAnswerOf reportWork
-report-alike N n t u work A = (rw same (go (verdict N n 0 u (length work)) refl), rw same)
-  where
-    same : verdict N n 0 t (length work) ≡ verdict N n 0 u (length work)
-    same = verdict-alike N n t u A 0 (length work)
-
-    counts : ((i : ℕ) → cells N n t i ≡ cells N n u i) → cellCounts N n t ≡ cellCounts N n u
-    counts c = unfold cellCounts in λ j. listOf 7 (λ i. cond (leb i N) (c i j) 0)
-
-    go : (v : Verdict) → verdict N n 0 u (length work) ≡ v → reportAnswerOf N n t v ≡ reportAnswerOf N n u v
-    go Verdict.fine e =
-        let P = fine-passes N n 0 t (length work) (same ∙ e) in
-        let Q = fine-passes N n 0 u (length work) e in
-        let (c, f, o) = report-map-alone (valid-closed (P .valid)) (valid-closed (Q .valid)) (P .limits .darts .0) (λ i d hi hd. links N n t u A i d hi) in
-        rw (counts c, f, o)
-    go (Verdict.refused nr p) e = refl
+report-alike N n t u work A =
+    alike-links N n (λ t u. (reportAnswer N n t work ≡ reportAnswer N n u work) × (reportWork N n t work ≡ reportWork N n u work))
+    (λ l. (refl, refl)) (λ t u S. report-links S work) t u A
 
 -- The reader: its walk carries along what stands behind its tables, so a call on longer tables is the call on the entries alone, with the rest carried along.
+
+-- more entries behind add no link
+past-same : {N n : ℕ} (m x : List ℕ) → size N n ≤ length m → SameMap N n (m ++ x) m
+past-same {N} {n} m x h = alike-map (simp length-append (omega arith)) h (take-append-le (size N n) m x h)
 
 -- a run with more entries behind
 unfoldable runTailed : List ℕ → Run → Run
@@ -319,7 +321,7 @@ module _ (w : Walk) (x : List ℕ) (h : size (w .dim) (w .darts) ≤ length (w .
   finish-tailed : w .dim ≤ 6 → (rest : List Bool) → finish (tailed w x) rest ≡ readingTailed x (finish w rest)
   unfolding finish manifold readingTailed tailed
   finish-tailed h6 rest =
-      rw (manifold-alike (w .dim) (w .darts) (w .links ++ x) (w .links) (take-append-le (size (w .dim) (w .darts)) (w .links) x h) h6)
+      rw (manifold-links {N = w .dim} {n = w .darts} {t = w .links ++ x} {u = w .links} (past-same (w .links) x h) h6)
       (test-tailed (eqb (w .count) (w .darts)) 15 _ _
       (test-tailed (manifold w) 16 _ _
       (test-tailed (eqb (value (take (length rest % 8) rest)) 0) 17 _ _
@@ -392,11 +394,12 @@ read-carried bytes m x h = rw (reading-carried (unpack bytes) m x h, closing-car
     (leaves-carried (closing (readingOf (unpack bytes) m) m) m x)
 
 -- what running and complete share is tested the same
-walk-fits-alike : (s : Session) (t u : List ℕ) → Alike (size (s .dim) (s .darts)) t u → walkFits s t ≡ walkFits s u
+walk-fits-links : (s : Session) (t u : List ℕ) → SameMap (s .dim) (s .darts) t u → walkFits s t ≡ walkFits s u
 unfolding walkFits entriesFit
-walk-fits-alike s t u A =
-    let e = below-same (size (s .dim) (s .darts)) (entry t) (entry u) (λ k h. rw (nth-alike (s .dim) (s .darts) t u A k h (k % s .darts))) in
-    rw (room-alike (s .dim) (s .darts) t u A, e)
+walk-fits-links s t u S =
+    let k = size (s .dim) (s .darts) in
+    let e = below-same k (entry t) (entry u) (λ k h. rw (nth-links S k h (k % s .darts))) in
+    rw (le-leb k (length t) (S .room), le-leb k (length u) (S .room'), e)
   where
     entry : List ℕ → ℕ → Bool
     entry l k = entryFits s (k / s .darts) (k % s .darts) (link (s .dim) (s .darts) l (k / s .darts) (k % s .darts))
@@ -414,7 +417,7 @@ module _ (s : Session) (seven : length (s .positions) ≡ 7) (ys : List Bool) (m
   fit-as-carried : (st : State) → reachAs st s ys ≤ length m → fitAs st s (m ++ x) ≡ fitAs st s m
   unfolding reachAs fitAs walkAt tailed
   fit-as-carried Header h = refl
-  fit-as-carried Running h = rw (walk-fits-alike s (m ++ x) m (take-append-le (size (s .dim) (s .darts)) m x h)) (go (walkFits s m) refl)
+  fit-as-carried Running h = rw (walk-fits-links s (m ++ x) m (past-same m x h)) (go (walkFits s m) refl)
     where
       tests : Bool → List ℕ → Bool
       tests b l = b && asks (walkOf s l) (head (walkOf s m)) && leb (s .waiting) 13 && valueFits s && begins (waitingOf s)
@@ -422,7 +425,7 @@ module _ (s : Session) (seven : length (s .positions) ≡ 7) (ys : List Bool) (m
       go : (b : Bool) → walkFits s m ≡ b → tests b (m ++ x) ≡ tests b m
       go false q = refl
       go true q = rw (asks-tailed (walkOf s m) x (fits-inv s m seven q .0))
-  fit-as-carried Complete h = rw (walk-fits-alike s (m ++ x) m (take-append-le (size (s .dim) (s .darts)) m x h))
+  fit-as-carried Complete h = rw (walk-fits-links s (m ++ x) m (past-same m x h))
   fit-as-carried Closed h = refl
   fit-as-carried (Refused nr p) h = refl
 
@@ -535,3 +538,59 @@ unfolding readAnswer readTables leaves
 read-alike bytes t u A =
     let S = same-left (headerSize (unpack bytes)) (λ l. leaves (readWhole bytes l) l) (read-carried bytes) (read-past bytes) t u A in
     (S .answer, S .entries, S .past)
+
+-- The session's calls look at the lent tables' links alone.
+
+-- N and n of the map whose entries a call with these bits may touch, by the state: the session's or the header's; of a closed or refused session there is none
+unfoldable pub sizesAs : State → Session → List Bool → ℕ × ℕ
+sizesAs Header s ys =
+    let bits = waitingOf s ++ ys in
+    cond (leb 16 (length bits) && dimFits (headerDim bits)) (headerDim bits, headerDarts bits) (0, 0)
+sizesAs Running s ys = (s .dim, s .darts)
+sizesAs Complete s ys = (s .dim, s .darts)
+sizesAs Closed s ys = (0, 0)
+sizesAs (Refused nr p) s ys = (0, 0)
+
+-- by the session's own state; closing brings no bits
+unfoldable pub sizes : Session → List Bool → ℕ × ℕ
+sizes s ys = sizesAs (s .state) s ys
+
+sizes-reach : (s : Session) (ys : List Bool) → size (sizes s ys .0) (sizes s ys .1) ≡ reach s ys
+unfolding sizes reach
+sizes-reach s ys = go (s .state)
+  where
+    header : (b : Bool) (x : ℕ × ℕ) → size (cond b x (0, 0) .0) (cond b x (0, 0) .1) ≡ cond b (size (x .0) (x .1)) 0
+    header true x = refl
+    header false x = refl
+
+    go : (st : State) → size (sizesAs st s ys .0) (sizesAs st s ys .1) ≡ reachAs st s ys
+    go Header = unfold sizesAs reachAs headerSize in
+        let bits = waitingOf s ++ ys in
+        header (leb 16 (length bits) && dimFits (headerDim bits)) (headerDim bits, headerDarts bits)
+    go Running = unfold sizesAs reachAs in refl
+    go Complete = unfold sizesAs reachAs in refl
+    go Closed = unfold sizesAs reachAs in refl
+    go (Refused nr p) = unfold sizesAs reachAs in refl
+
+-- what a call leaves on them: the same record, the same answer, equal links
+pub record LinksLeft (N n : ℕ) (l l' : Left) : Type 0 where
+  pub session : l .session ≡ l' .session
+  pub answer : l .answer ≡ l' .answer
+  pub links : SameLinks N n (l .tables) (l' .tables)
+
+sizes-alike : (s : Session) (ys : List Bool) (t u : List ℕ) → SameMap (sizes s ys .0) (sizes s ys .1) t u → Alike (reach s ys) t u
+sizes-alike s ys t u S = rw (sizes-reach s ys) at (map-alike S)
+
+links-left : (s : Session) (ys : List Bool) (t : List ℕ) (l l' : Left) → SameLeft (reach s ys) t l l' → LinksLeft (sizes s ys .0) (sizes s ys .1) l l'
+links-left s ys t l l' L = record { session = L .session; answer = L .answer; links = alike-same (rw (sizes-reach s ys) (L .entries)) }
+
+pub fit-links : (s : Session) (t u : List ℕ) → length (s .positions) ≡ 7 → SameMap (sizes s [] .0) (sizes s [] .1) t u → fit s t ≡ fit s u
+fit-links s t u seven S = fit-alike s t u seven (sizes-alike s [] t u S)
+
+pub page-links : (s : Session) (bytes t u : List ℕ) → length (s .positions) ≡ 7 → SameMap (sizes s (unpack bytes) .0) (sizes s (unpack bytes) .1) t u
+    → LinksLeft (sizes s (unpack bytes) .0) (sizes s (unpack bytes) .1) (page s bytes t) (page s bytes u)
+page-links s bytes t u seven S = links-left s (unpack bytes) t _ _ (page-alike s bytes t u seven (sizes-alike s (unpack bytes) t u S))
+
+pub close-links : (s : Session) (t u : List ℕ) → length (s .positions) ≡ 7 → SameMap (sizes s [] .0) (sizes s [] .1) t u
+    → LinksLeft (sizes s [] .0) (sizes s [] .1) (close s t) (close s u)
+close-links s t u seven S = links-left s [] t _ _ (close-alike s t u seven (sizes-alike s [] t u S))

@@ -1,0 +1,206 @@
+-- The walk over a map follows a renaming of its darts: where f carries m to m', the walk over m' from the root's new name is step for step the walk over m
+-- from the root. It writes the same symbols, and its names are the renamed ones. So the stream does not change, the check accepts both or neither, and
+-- writer and report answer the same. Rests on Renamed, Cells, Check and Numbering.
+use Prim.Native.Nat.{ℕ, zero, suc, _≤_, _<_}
+use mathlib.Core.Path.{_≡_, refl, ap, sym, _∙_}
+use mathlib.Core.Bool.{cond}
+use mathlib.Core.List.{List, [], _∷_, map, map-append, map-id}
+use native.Mathlib.Omega.{arith}
+use native.Mathlib.Decide.{ℕ-discrete}
+use lib.ListN.{length, getD, length-map}
+use lib.Dec.{eqb, leb}
+use borrow.Author.Tests.{eq-eqb, ne-eqb}
+use Rattle.rules.specs.Lists.{number, listOf}
+use Rattle.rules.specs.Map.{mark, size, Valid}
+use Rattle.rules.specs.Walk.{Walk, start, Head, head, Partner, partner, Symbol, enough, Written, symbolOf, named, writeSymbol, writeWith}
+use Rattle.rules.specs.Walk.{writeAt, writeStep}
+use Rattle.rules.specs.Walk.{Walked, prepend, writeOn, write, walked, namesOf, symbolsOf}
+use Rattle.rules.specs.Writing.{stream, startVerdict, writeVerdict, pageAfter, writePage, writeAnswer, writeOut}
+use Rattle.rules.specs.Report.{cells, cellCounts, reportAnswerOf, reportAnswer}
+use Rattle.rules.specs.Check.{Verdict, verdict}
+use Rattle.rules.specs.Inner.{Inv}
+use Rattle.rules.proofs.Orbits.{valid-closed, connected-any}
+use Rattle.rules.proofs.Renamed.{Carries, SameLinks, getD-mapped, valid-to, valid-from, connected-to, connected-from}
+use Rattle.rules.proofs.Cells.{report-map-alone}
+use Rattle.rules.proofs.Check.{Passes, fine-passes, passes-fine}
+use Rattle.rules.proofs.Links.{next-below}
+use Rattle.rules.proofs.Walks.{start-inv, next-of}
+use Rattle.rules.proofs.Moves.{moved}
+use Rattle.rules.proofs.Names.{name, Names, write-move, start-names}
+use Rattle.rules.proofs.Numbering.{name-below}
+
+-- a step's names are renamed; what it writes and where the walk goes are the same
+unfoldable pub renamedStep : (ℕ → ℕ) → Written → Written
+renamedStep f Written.finished = Written.finished
+renamedStep f (Written.wrote out w names) = Written.wrote out w (map f names)
+
+-- a whole walk's names are renamed
+unfoldable pub renamed : (ℕ → ℕ) → Walked → Walked
+renamed f r = record { symbols = r .symbols; names = map f (r .names) }
+
+module _ (f : ℕ → ℕ) (n : ℕ) (once : (d e : ℕ) → d < n → e < n → f d ≡ f e → d ≡ e) where
+  eqb-renamed : (d e : ℕ) → d < n → e < n → eqb (f d) (f e) ≡ eqb d e
+  eqb-renamed d e hd he = go (ℕ-discrete d e)
+    where
+      go : Dec (d ≡ e) → eqb (f d) (f e) ≡ eqb d e
+      go (yes q) = eq-eqb (f d) (f e) (ap f q) ∙ sym (eq-eqb d e q)
+      go (no q) = ne-eqb (f d) (f e) (λ z. q (once d e hd he z)) ∙ sym (ne-eqb d e q)
+
+  -- a dart's place among the names stays
+  pub number-mapped : (names : List ℕ) (x : ℕ) → ((p : ℕ) → p < length names → getD names p mark < n) → x < n → number (map f names) (f x) ≡ number names x
+  unfolding number
+  number-mapped [] x low hx = refl
+  number-mapped (y ∷ names) x low hx =
+      rw (eqb-renamed y x (low 0 (omega arith)) hx, number-mapped names x (λ p h. low (suc p) (omega arith)) hx)
+
+-- one step: the same symbols, the same walk, the renamed names
+pub step-renamed : {f : ℕ → ℕ} {m m' : List ℕ} {root : ℕ} (w : Walk) (names : List ℕ) → Inv w → Names m root w names → Valid (w .dim) (w .darts) m
+    → Carries f (w .dim) (w .darts) m m' → writeStep m' w (map f names) ≡ renamedStep f (writeStep m w names)
+unfolding writeStep
+step-renamed {f} {m} {m'} w names v M A K = go (head w) refl
+  where
+    written : (j b x : ℕ) (s : Symbol) → writeSymbol w (map f names) j b (f x) s ≡ renamedStep f (writeSymbol w names j b x s)
+    written j b x Symbol.new = unfold writeSymbol named renamedStep in rw (map-append f names (x ∷ []))
+    written j b x Symbol.border = unfold writeSymbol named renamedStep in refl
+    written j b x (Symbol.index e) = unfold writeSymbol named renamedStep in refl
+
+    with' : (j b d x : ℕ) → d < w .darts → x < w .darts → (p : Partner)
+        → writeWith w (map f names) j b (f d) (f x) p ≡ renamedStep f (writeWith w names j b d x p)
+    with' j b d x hd hx Partner.known = unfold writeWith renamedStep in refl
+    with' j b d x hd hx (Partner.deduced e) = unfold writeWith renamedStep in refl
+    with' j b d x hd hx Partner.asked = unfold writeWith in
+        let low : (p : ℕ) → p < length names → getD names p mark < w .darts = λ p h. unfold name in (M .low p (omega (arith, M .len))) in
+        rw (eqb-renamed f (w .darts) (K .once) x d hx hd, number-mapped f (w .darts) (K .once) names x low hx, length-map names f)
+        (written j b x (symbolOf (eqb x d) (eqb (number names x) (length names)) (number names x)))
+
+    go : (h : Head) → head w ≡ h → writeAt m' w (map f names) h ≡ renamedStep f (writeAt m w names h)
+    go Head.none h = unfold writeAt renamedStep in refl
+    go (Head.at j b) h = unfold writeAt name in
+        let n = next-of w v h .next in
+        let hb = next-below w (v .shape) (v .links) j b n in
+        let hd : getD names b mark < w .darts = M .low b hb in
+        let e = getD-mapped f names b mark (omega (arith, M .len)) in
+        let hx = A .inside j (getD names b mark) (n .ranked) hd in
+        rw (e, K .links j (getD names b mark) (n .ranked) hd) (with' j b (getD names b mark) _ hd hx (partner w j b))
+
+-- and so every walk on its way
+pub write-renamed : {f : ℕ → ℕ} {m m' : List ℕ} {root : ℕ} (k : ℕ) (w : Walk) (names : List ℕ) → Inv w → Names m root w names → Valid (w .dim) (w .darts) m
+    → Carries f (w .dim) (w .darts) m m' → write k m' w (map f names) ≡ renamed f (write k m w names)
+unfolding write
+write-renamed zero w names v M A K = unfold renamed in refl
+write-renamed {f} {m} {m'} {root} (suc k) w names v M A K = rw (step-renamed w names v M A K)
+    (go (λ w' names' v' M' A' K'. write-renamed k w' names' v' M' A' K') (head w) refl)
+  where
+    go : ((w' : Walk) (names' : List ℕ) → Inv w' → Names m root w' names' → Valid (w' .dim) (w' .darts) m
+        → Carries f (w' .dim) (w' .darts) m m' → write k m' w' (map f names') ≡ renamed f (write k m w' names'))
+        → (h : Head) → head w ≡ h
+        → writeOn (λ w' names'. write k m' w' names') (map f names) (renamedStep f (writeStep m w names))
+        ≡ renamed f (writeOn (λ w' names'. write k m w' names') names (writeStep m w names))
+    go rec Head.none h = unfold writeStep writeAt writeOn renamedStep renamed in rw h
+    go rec (Head.at j b) h =
+        let y = write-move m root w names v M A j b h in
+        let g = moved w (y .walk) (y .out) v (y .move) in
+        let A' : Valid (y .walk .dim) (y .walk .darts) m = rw (g .grows .dim, g .grows .darts) A in
+        let K' : Carries f (y .walk .dim) (y .walk .darts) m m' = rw (g .grows .dim, g .grows .darts) K in
+        rw (y .eq) (unfold writeOn renamedStep renamed prepend in ap (prepend (y .out)) (rec (y .walk) (y .names') (g .inv) (y .keeps) A' K'))
+
+module _ {f : ℕ → ℕ} {N n : ℕ} {m m' : List ℕ} (K : Carries f N n m m') (h6 : N ≤ 6) (hn : n ≤ 4096) {root : ℕ} (hr : root < n) (A : Valid N n m) where
+  -- the whole walk: the same symbols, the renamed names
+  pub walk-renamed : walked N n m' (f root) ≡ renamed f (walked N n m root)
+  unfolding walked
+  walk-renamed =
+      write-renamed (enough N n) (start N n []) (root ∷ []) (start-inv N n [] (omega arith) hn h6) (start-names N n [] m root hr)
+      (unfold start in A) (unfold start in K)
+
+  pub symbols-renamed : symbolsOf N n m' (f root) ≡ symbolsOf N n m root
+  unfolding symbolsOf renamed
+  symbols-renamed = ap (λ (r : Walked). r .symbols) walk-renamed
+
+  pub names-renamed : namesOf N n m' (f root) ≡ map f (namesOf N n m root)
+  unfolding namesOf renamed
+  names-renamed = ap (λ (r : Walked). r .names) walk-renamed
+
+  -- the stream does not change
+  pub stream-renamed : stream N n m' (f root) ≡ stream N n m root
+  unfolding stream
+  stream-renamed = rw symbols-renamed
+
+  -- a dart's walk number goes with it
+  pub number-renamed : (d : ℕ) → d < n → number (namesOf N n m' (f root)) (f d) ≡ number (namesOf N n m root) d
+  number-renamed d h = rw names-renamed (number-mapped f n (K .once) (namesOf N n m root) d (λ p l. unfold name in name-below N n m root h6 hn hr A p l) h)
+
+-- over equal links it is the same walk
+pub walk-links : {N n : ℕ} {m m' : List ℕ} → SameLinks N n m m' → N ≤ 6 → n ≤ 4096 → {root : ℕ} → root < n → Valid N n m
+    → walked N n m' root ≡ walked N n m root
+walk-links {N} {n} {m} S h6 hn {root} hr A = walk-renamed S h6 hn hr A ∙ unchanged (walked N n m root)
+  where
+    unchanged : (r : Walked) → renamed (λ d. d) r ≡ r
+    unchanged r = unfold renamed in λ i. record { symbols = r .symbols; names = map-id (r .names) i }
+
+-- The check accepts the one from a root exactly if it accepts the other from the root's new name.
+module _ {f : ℕ → ℕ} {N n : ℕ} {m m' : List ℕ} (K : Carries f N n m m') (root room : ℕ) where
+  pub fine-to : size N n ≤ length m' → verdict N n root m room ≡ Verdict.fine → verdict N n (f root) m' room ≡ Verdict.fine
+  fine-to h e =
+      let P = fine-passes N n root m room e in
+      passes-fine N n (f root) m' room (record {
+        limits = record { dims = P .limits .dims; darts = P .limits .darts; room = h };
+        work = P .work;
+        valid = valid-to K (P .valid);
+        connected = connected-to K (valid-closed (P .valid)) (P .connected);
+      })
+
+  pub fine-from : size N n ≤ length m → verdict N n (f root) m' room ≡ Verdict.fine → verdict N n root m room ≡ Verdict.fine
+  fine-from h e =
+      let P = fine-passes N n (f root) m' room e in
+      let A = valid-from K (P .valid) in
+      passes-fine N n root m room (record {
+        limits = record { dims = P .limits .dims; darts = P .limits .darts; room = h };
+        work = P .work;
+        valid = A;
+        connected = connected-from K (valid-closed A) (P .connected);
+      })
+
+-- where the check is fine the writer gives the same answer and leaves the same output
+module _ {f : ℕ → ℕ} {N n : ℕ} {m m' : List ℕ} (K : Carries f N n m m') (root start : ℕ) (work out : List ℕ) (h : size N n ≤ length m')
+    (e : verdict N n root m (length work) ≡ Verdict.fine) where
+  stream-same : stream N n m' (f root) ≡ stream N n m root
+  stream-same =
+      let P = fine-passes N n root m (length work) e in
+      stream-renamed K (P .limits .dims .1) (P .limits .darts .1) (P .connected .rooted) (P .valid)
+
+  page-same : (v : Verdict) → pageAfter N n (f root) start m' (length out) v ≡ pageAfter N n root start m (length out) v
+  unfolding pageAfter
+  page-same Verdict.fine = rw stream-same
+  page-same (Verdict.refused nr p) = refl
+
+  judged-same : writeVerdict N n (f root) start m' (length work) ≡ writeVerdict N n root start m (length work)
+  unfolding writeVerdict startVerdict
+  judged-same = rw (e, fine-to K root (length work) h e, stream-same)
+
+  pub write-follows : (writeAnswer N n (f root) start m' work out ≡ writeAnswer N n root start m work out)
+      × (writeOut N n (f root) start m' work out ≡ writeOut N n root start m work out)
+  unfolding writeAnswer writeOut writePage
+  write-follows =
+      let p : writePage N n (f root) start m' work out ≡ writePage N n root start m work out =
+      rw judged-same (page-same (writeVerdict N n root start m (length work))) in
+      (rw (p, stream-same, judged-same), rw p)
+
+-- where it is fine from dart 0 the report gives the same answer
+pub report-follows : {f : ℕ → ℕ} {N n : ℕ} {m m' : List ℕ} → Carries f N n m m' → (work : List ℕ) → size N n ≤ length m'
+    → verdict N n 0 m (length work) ≡ Verdict.fine → reportAnswer N n m' work ≡ reportAnswer N n m work
+unfolding reportAnswer reportAnswerOf
+report-follows {f} {N} {n} {m} {m'} K work h e =
+    let (c, p, o) = report-map-alone K (valid-closed (P .valid)) (P .limits .darts .0) in
+    rw (e, same, counts c, p, o)
+  where
+    P : Passes N n 0 m (length work)
+    P = fine-passes N n 0 m (length work) e
+
+    same : verdict N n 0 m' (length work) ≡ Verdict.fine
+    same =
+        let Q = fine-passes N n (f 0) m' (length work) (fine-to K 0 (length work) h e) in
+        let c = connected-any (valid-closed (Q .valid)) (Q .connected) 0 (P .connected .rooted) in
+        passes-fine N n 0 m' (length work) (record { limits = Q .limits; work = Q .work; valid = Q .valid; connected = c })
+
+    counts : ((i : ℕ) → cells N n m' i ≡ cells N n m i) → cellCounts N n m' ≡ cellCounts N n m
+    counts c = unfold cellCounts in λ j. listOf 7 (λ i. cond (leb i N) (c i j) 0)
