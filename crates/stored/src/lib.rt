@@ -14,7 +14,10 @@ ghost use Rattle.stored.specs.Layout.{stateBy, positionsBy, sessionBy, s
 // How many numbers a record has.
 const NUMBERS: usize = 15;
 
-// A record: state, refusal's number and place, N, n, count, seven positions, the waiting bits and their value.
+// How many of them, the first, are the state's.
+const OF_STATE: usize = 3;
+
+// A record: state, refusal's number and place; then N, n, count, seven positions, the waiting bits and their value.
 pub type Record = [u32; NUMBERS];
 
 // A reading's answer as stored: number, place, steps, N, n.
@@ -167,7 +170,7 @@ pub fn state_stands(state: u32, number: u32, place: u32) -> bool
 pub fn narrow(kept: Record) -> bool
     ensures { λ r. ⌜ r ≡ allNarrow (afterBy kept) ⌝ }
 {
-    let mut k = 3;
+    let mut k = OF_STATE;
     while k < NUMBERS {
         if 65535 < kept[k] {
             return false;
