@@ -8,8 +8,8 @@ ghost use mathlib.Core.Path.{_≡_};
 ghost use mathlib.Core.Bool.{true, cond};
 ghost use Rattle.rules.specs.Reading.{plainAnswer};
 ghost use Rattle.stored.specs.Answers.{readNumbers, reportNumbers};
-ghost use Rattle.stored.specs.Layout.{stateNumber, refusalNumber, refusalPlace, storedSession};
-ghost use Rattle.stored.specs.Layout.{stateBy, positionsBy, sessionBy, stateStands, afterBy, allNarrow, standing};
+ghost use Rattle.stored.specs.Layout.{stateNumber, refusalNumber, refusalPlace, storedSession, stateBy};
+ghost use Rattle.stored.specs.Layout.{positionsBy, sessionBy, stateStands, afterBy, allNarrow, standing};
 
 // How many numbers a record has.
 const NUMBERS: usize = 15;
