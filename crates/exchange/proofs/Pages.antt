@@ -6,7 +6,7 @@ use lib.ListN.{length, getD, take}
 use Rattle.rules.specs.Check.{Verdict, verdict}
 use Rattle.rules.specs.Writing.{stream, writeAnswer, writeOut, writeWork}
 use Rattle.writer.proofs.Demands.{Writes, Served, served-bytes, served-stream}
-use Rattle.exchange.specs.Stored.{writeNumbers}
+use Rattle.stored.specs.Answers.{writeNumbers}
 
 -- the contract of `kz_write`: r, answer, work' and out' are the number returned, the answer stored, the work room and the output that a call leaves
 pub record Stores (N n root : ℕ) (t : List ℕ) (start : ℕ) (work out : List ℕ) (r : ℕ) (answer work' out' : List ℕ) : Type 0 where

@@ -10,7 +10,9 @@ use Rattle.rules.specs.Report.{reportAnswer, reportWork}
 use Rattle.rules.specs.Session.{opened}
 use Rattle.rules.specs.Writing.{writeAnswer, writeOut, writeWork}
 use Rattle.rules.proofs.Unique.{one-value}
-use Rattle.exchange.specs.Stored.{checkNumbers, writeNumbers, readNumbers, reportNumbers, storedSession, Lent, lent, pageLent, closeLent}
+use Rattle.stored.specs.Answers.{checkNumbers, writeNumbers, readNumbers, reportNumbers}
+use Rattle.stored.specs.Layout.{storedSession}
+use Rattle.exchange.specs.Rooms.{Lent, lent, pageLent, closeLent}
 
 pub one-kz-check : (N n root : ℕ) (t work : List ℕ) (r r' : ℕ) (a a' u u' : List ℕ)
     → (r ≡ checkAnswer N n root t work .number) × (a ≡ checkNumbers (checkAnswer N n root t work)) × (u ≡ checkWork N n root t work)

@@ -2,7 +2,7 @@
 use mathlib.Core.Path.{ap}
 use borrow.Author.Needs.{needs}
 use Rattle.rules.specs.declared.CheckAnswer.{CheckAnswer}
-use Rattle.exchange.specs.Stored.{checkNumbers}
+use Rattle.stored.specs.Answers.{checkNumbers}
 use Rattle.exchange.proofs.kz_check.Statement.{statement}
 use Rattle.exchange.proofs.kz_check.Tie as tie
 

@@ -1,7 +1,7 @@
 -- `exchange::kz_open` meets its contract: a new session, as stored. Assumes nothing.
 use mathlib.Core.Path.{ap, _∙_}
 use borrow.Author.Needs.{needs}
-use Rattle.exchange.specs.Stored.{storedSession}
+use Rattle.stored.specs.Layout.{storedSession}
 use Rattle.exchange.proofs.kz_open.Statement.{statement}
 use Rattle.exchange.proofs.kz_open.Tie as tie
 

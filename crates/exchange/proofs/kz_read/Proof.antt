@@ -2,7 +2,7 @@
 use mathlib.Core.Path.{ap, _∙_}
 use borrow.Author.Needs.{needs}
 use Rattle.rules.specs.declared.ReadAnswer.{ReadAnswer}
-use Rattle.exchange.specs.Stored.{readNumbers}
+use Rattle.stored.specs.Answers.{readNumbers}
 use Rattle.exchange.proofs.kz_read.Statement.{statement}
 use Rattle.exchange.proofs.kz_read.Tie as tie
 

@@ -2,7 +2,7 @@
 use mathlib.Core.Path.{ap, _∙_}
 use borrow.Author.Needs.{needs}
 use Rattle.rules.specs.declared.ReportAnswer.{ReportAnswer}
-use Rattle.exchange.specs.Stored.{reportNumbers}
+use Rattle.stored.specs.Answers.{reportNumbers}
 use Rattle.exchange.proofs.kz_report.Statement.{statement}
 use Rattle.exchange.proofs.kz_report.Tie as tie
 

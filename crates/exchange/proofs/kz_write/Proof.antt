@@ -2,7 +2,7 @@
 use mathlib.Core.Path.{ap}
 use borrow.Author.Needs.{needs}
 use Rattle.rules.specs.declared.WriteAnswer.{WriteAnswer}
-use Rattle.exchange.specs.Stored.{writeNumbers}
+use Rattle.stored.specs.Answers.{writeNumbers}
 use Rattle.exchange.proofs.kz_write.Statement.{statement}
 use Rattle.exchange.proofs.kz_write.Tie as tie
 

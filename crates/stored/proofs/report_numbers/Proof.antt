@@ -1,10 +1,10 @@
--- `exchange::report_numbers` meets its contract: the numbers of the answer in their order. Assumes nothing.
+-- `stored::report_numbers` meets its contract: the numbers of the answer in their order. Assumes nothing.
 use mathlib.Core.Path.{_≡_, sym, _∙_}
 use lib.ListN.{length, length-map}
 use borrow.Author.Needs.{needs}
-use Rattle.exchange.proofs.Laws.{reported-by}
-use Rattle.exchange.proofs.report_numbers.Statement.{statement}
-use Rattle.exchange.proofs.report_numbers.Tie as tie
+use Rattle.stored.proofs.Laws.{reported-by}
+use Rattle.stored.proofs.report_numbers.Statement.{statement}
+use Rattle.stored.proofs.report_numbers.Tie as tie
 
 array-read-t5 : tie.Need-array-read-t5
 array-read-t5 c = search needs

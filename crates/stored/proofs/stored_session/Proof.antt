@@ -1,10 +1,10 @@
--- `exchange::stored_session` meets its contract: the numbers of the record in their order. Assumes nothing.
+-- `stored::stored_session` meets its contract: the numbers of the record in their order. Assumes nothing.
 use mathlib.Core.Path.{_≡_, sym, _∙_}
 use lib.ListN.{length, length-map}
 use borrow.Author.Needs.{needs}
-use Rattle.exchange.proofs.Laws.{stored-by}
-use Rattle.exchange.proofs.stored_session.Statement.{statement}
-use Rattle.exchange.proofs.stored_session.Tie as tie
+use Rattle.stored.proofs.Laws.{stored-by}
+use Rattle.stored.proofs.stored_session.Statement.{statement}
+use Rattle.stored.proofs.stored_session.Tie as tie
 
 stored-positions-requires : tie.Need-stored-positions-requires
 stored-positions-requires c κs = search needs
@@ -54,11 +54,20 @@ cast-t33 c = search needs
 cast-t34 : tie.Need-cast-t34
 cast-t34 c = search needs
 
+-- how many positions there are stands among the facts of the parameter's fields
+seven-given : (a : tie.Start) → length (a .args .s .positions) ≡ 7
+seven-given a = sym (length-map (a .args .s .positions) (λ v. v)) ∙ a .good .0 .1 .1 .1 .1 .1 .1 .0 .1 .0 .1
+
+-- behind the five fields that are read last stand the three calls on the state, and behind these the positions
 returns : tie.Need-returns
 returns c =
-    let a = c .before .before .before .before .before .before .before .before .before .before in
-    let e : length (a .args .s .positions) ≡ 7 = sym (length-map (a .args .s .positions) (λ v. v)) ∙ a .good .0 .1 .1 .1 .1 .1 .1 .0 .1 .0 .1 in
-    stored-by (a .args .s) e _ (c .before .before .before .before .before .before .before .before .stored-positions .ensures) _ _ _ (c .before .before .before .before .before .before .before .state-number .ensures) (c .before .before .before .before .before .before .refusal-number .ensures) (c .before .before .before .before .before .refusal-place .ensures)
+    let place = c .before .before .before .before .before in
+    let number = place .before in
+    let state = number .before in
+    let positions = state .before in
+    let a = positions .before .before in
+    stored-by (a .args .s) (seven-given a) _ (positions .stored-positions .ensures) _ _ _
+    (state .state-number .ensures) (number .refusal-number .ensures) (place .refusal-place .ensures)
 
 pub stored-session-spec : {M : Type 1} → statement M
 stored-session-spec =

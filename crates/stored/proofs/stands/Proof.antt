@@ -1,8 +1,8 @@
--- `exchange::stands` meets its contract: the state stands, and the numbers after it are narrow. Assumes nothing.
+-- `stored::stands` meets its contract: the state stands, and the numbers after it are narrow. Assumes nothing.
 use borrow.Author.Needs.{needs}
-use Rattle.exchange.proofs.Laws.{no-state, by-numbers}
-use Rattle.exchange.proofs.stands.Statement.{statement}
-use Rattle.exchange.proofs.stands.Tie as tie
+use Rattle.stored.proofs.Laws.{no-state, by-numbers}
+use Rattle.stored.proofs.stands.Statement.{statement}
+use Rattle.stored.proofs.stands.Tie as tie
 
 array-read-state-stands : tie.Need-array-read-state-stands
 array-read-state-stands c = search needs
