@@ -11,14 +11,13 @@ use lib.Seq.{take-nil, drop-nil, take-all, take-append-le, drop-append-le, drop-
 use lib.Arith.{digits-lt}
 use lib.Pow.{pow-add, pow-pos, pow-mono, shl-exact, shr-lt}
 use borrow.Author.Tests.{lt-ltb, le-ltb}
-use Rattle.rules.specs.declared.Dart.{Dart}
 use Rattle.rules.specs.declared.WalkNo.{WalkNo}
-use Rattle.rules.specs.Stream.{bitsOf, value, pack, code, codes, filled}
+use Rattle.rules.specs.declared.Symbol.{Symbol}
+use Rattle.rules.specs.declared.Symbol.the-variants.{New, Border, Index}
+use Rattle.rules.specs.Symbols.{toldSymbol}
+use Rattle.rules.specs.Stream.{bitsOf, value, pack, code, filled}
 use Rattle.rules.specs.Writing.{pageOf}
 use Rattle.rules.proofs.Codes.{length-pack, length-bits, value-lt, value-bits, value-append, value-zeros, bits-join, bits-split, filled-exact}
-use Rattle.walk.specs.declared.Output.{Output}
-use Rattle.walk.specs.declared.Output.the-variants.{Nothing, Border, New, Index}
-use Rattle.walk.proofs.Laws.{symbolsFor}
 use Rattle.pen.specs.declared.Pen.{Pen}
 use Rattle.pen.specs.Pens.{stored, penned, PenFits, Holds, Put, IndexFits}
 use Rattle.pen.proofs.Bits.{pack-front, pack-whole}
@@ -226,27 +225,24 @@ module _ (v k : ℕ) (byte : 8 ≤ k) (small : v < 2 ^ k) where
     pub put-halves : {r : Pen} {o'' : List ℕ} → Put (bitsOf 8 (v % 256)) start q r o' o'' → Put (bitsOf k v) start p r o o''
     put-halves w = let b : bitsOf k v ≡ bitsOf (k - 8) (v / 2 ^ 8) ++ bitsOf 8 (v % 256) = rw upper at (bits-split (k - 8) 8 v (rw upper small)) in rw b (put-both u w)
 
--- what a step writes
-module _ {s : Output} where
-  pub put-nothing : s ≡ Nothing → (start : ℕ) (pen : Pen) (out : List ℕ) → Put (codes (symbolsFor s)) start pen pen out out
-  unfolding codes symbolsFor
-  put-nothing e start pen out = rw e (put-none start pen out)
+-- the code of a symbol
+module _ {s : Symbol} where
+  pub put-new : s ≡ New → {start : ℕ} {p r : Pen} {o o' : List ℕ} → Put (bitsOf 1 0) start p r o o' → Put (code (toldSymbol s)) start p r o o'
+  unfolding code bitsOf
+  put-new e u = rw e u
 
-  pub put-new : (x : Dart) → s ≡ New x → {start : ℕ} {p r : Pen} {o o' : List ℕ} → Put (bitsOf 1 0) start p r o o' → Put (codes (symbolsFor s)) start p r o o'
-  unfolding codes code symbolsFor bitsOf
-  put-new x e u = rw e u
-
-  pub put-border : s ≡ Border → {start : ℕ} {p r : Pen} {o o' : List ℕ} → Put (bitsOf 2 2) start p r o o' → Put (codes (symbolsFor s)) start p r o o'
-  unfolding codes code symbolsFor bitsOf
+  pub put-border : s ≡ Border → {start : ℕ} {p r : Pen} {o o' : List ℕ} → Put (bitsOf 2 2) start p r o o' → Put (code (toldSymbol s)) start p r o o'
+  unfolding code bitsOf
   put-border e u = rw e u
 
   module _ (w : WalkNo) (e : s ≡ Index w) where
     pub index-small : IndexFits s → w .0 < 4096
     index-small h = rw e at h
 
-    pub put-index : IndexFits s → {start : ℕ} {p r : Pen} {o o' : List ℕ} → Put (bitsOf 14 (3 * 4096 + w .0)) start p r o o' → Put (codes (symbolsFor s)) start p r o o'
-    unfolding codes code symbolsFor bitsOf
-    put-index h u = rw (e, append-nil) (rw (← bits-join 2 12 3 (w .0) (omega arith) (index-small h)) at u)
+    pub put-index : IndexFits s → {start : ℕ} {p r : Pen} {o o' : List ℕ} → Put (bitsOf 14 (3 * 4096 + w .0)) start p r o o'
+        → Put (code (toldSymbol s)) start p r o o'
+    unfolding code bitsOf
+    put-index h u = rw e (rw (← bits-join 2 12 3 (w .0) (omega arith) (index-small h)) at u)
 
 -- a pen at the start of a stream
 pub holds-start : (start : ℕ) (out : List ℕ) → Holds [] start out (record { at = 0; bits = 0; value = 0 }) out
