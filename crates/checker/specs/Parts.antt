@@ -29,7 +29,6 @@ misbuiltOf N n t =
     cond (ltb p8 n) (record { number = 8; place = p8 }) (
     record { number = 0; place = 0 })))
 
-
 -- a dart has no walk number in the work room
 abbrev pub numberless : List ℕ → ℕ → Bool
 numberless work d = eqb (getD work d mark) mark

@@ -20,7 +20,7 @@ use Rattle.rules.proofs.Codes.{length-bits}
 use Rattle.rules.proofs.Names.{room}
 use Rattle.rules.proofs.Streams.{filled-length, stream-longest}
 use Rattle.pen.specs.Pens.{penned, PenFits, Holds, Put}
-use Rattle.writer.specs.Replays.{NumberedFrom}
+use Rattle.replay.specs.Replays.{NumberedFrom}
 
 -- the page of a whole stream, as the pen leaves it
 pub emitted : (N n : ℕ) (t : List ℕ) (root from : ℕ) (p0 p1 p2 p3 : Pen) (o0 o1 o2 o3 o4 : List ℕ)
