@@ -52,11 +52,12 @@ pub fn put_symbols(
             let s = replay::step(tables, work, &mut positions, dim, darts, j, count);
             let written = s.written;
             last = put_yield(last, written, start, out);
+            let next = s.count;
             // a new dart enters L0, so the lowest queue is looked for from there again
-            if s.count != count {
+            if next != count {
                 j = 0;
             }
-            count = s.count;
+            count = next;
         }
     }
     last

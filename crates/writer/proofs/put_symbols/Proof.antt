@@ -108,17 +108,17 @@ goes c root q =
     writing-goes (rooted (start t) root q) q (t .loop .inv .4 root q) (t .loop .j) (served (k .before)) _ (e .0) (e .1) (c .put-yield .ensures)
 
 loop-less-2 : tie.Need-loop-less-2 Inv-loop μ-loop
-loop-less-2 c = omega (arith, nearer (step-of (c .before .before .before .before)))
+loop-less-2 c = omega (arith, nearer (step-of (c .before .before .before)))
 
 loop-again-2 : tie.Need-loop-again-2 Inv-loop μ-loop
-loop-again-2 c = (search needs, search needs, omega arith, emptied-none _ _, goes (c .before .before .before .before))
+loop-again-2 c = (search needs, search needs, omega arith, emptied-none _ _, goes (c .before .before .before))
 
 loop-less-3 : tie.Need-loop-less-3 Inv-loop μ-loop
-loop-less-3 c = omega (arith, nearer (step-of (c .before .before .before .before)))
+loop-less-3 c = omega (arith, nearer (step-of (c .before .before .before)))
 
 loop-again-3 : tie.Need-loop-again-3 Inv-loop μ-loop
 loop-again-3 c =
-    let y = c .before .before .before .before in
+    let y = c .before .before .before in
     let k = step-of y in
     let l = turn (k .before) .loop in
     (search needs, search needs, l .inv .2, rw (k .step .ensures .1) (emptied-after (l .count) _ (l .positions) (l .j) (l .inv .3) (c .if2 .left)), goes y)
