@@ -32,35 +32,44 @@ found-below {f} {k} {i} s h q = rw (← sought-here s h q, lt-ltb i k h)
 pub found-none : {f : ℕ → Bool} {k i : ℕ} → Sought f k i → k ≤ i → false ≡ ltb (first f k) k
 found-none {f} {k} {i} s h = rw (← sought-end s h, le-ltb i k h)
 
--- what a step writes, one way through the code at a time: the dart's own number is not below the position
-module _ (N n : ℕ) (t work : List ℕ) (c j p : ℕ) (d : Dart) (ed : d .0 ≡ dartIn n work p) (own : p ≤ numberIn n work (d .0))
-    (x : Dart) (ex : x .0 ≡ link N n t j (d .0)) (e : WalkNo) (ee : e .0 ≡ numberIn n work (x .0)) where
-  pub writes-known : e .0 < p → Nothing ≡ writesIn N n t work c j p
+-- what the three reads of a step answered: the dart of position p, its partner and the partner's number; the dart's own number is not below the position
+pub record Read (N n : ℕ) (t work : List ℕ) (j p : ℕ) (d x : Dart) (e : WalkNo) : Type 0 where
+  pub dart : d .0 ≡ dartIn n work p
+  pub own : p ≤ numberIn n work (dartIn n work p)
+  pub partner : x .0 ≡ link N n t j (d .0)
+  pub number : e .0 ≡ numberIn n work (x .0)
+
+-- what a step writes, one way through the code at a time
+module _ {N n : ℕ} {t work : List ℕ} {j p : ℕ} {d x : Dart} {e : WalkNo} (R : Read N n t work j p d x e) where
+  own-number : p ≤ numberIn n work (d .0)
+  own-number = rw (R .dart) (R .own)
+
+  pub writes-known : (c : ℕ) → e .0 < p → Nothing ≡ writesIn N n t work c j p
   unfolding writesIn writesBy knownIn
-  writes-known h = rw (← ed, ← ex, ← ee, le-ltb (numberIn n work (d .0)) p own, lt-ltb (e .0) p h)
+  writes-known c h = rw (← R .dart, ← R .partner, ← R .number, le-ltb (numberIn n work (d .0)) p own-number, lt-ltb (e .0) p h)
 
   pub writes-unknown : p ≤ e .0 → knownIn N n t work j p (d .0) ≡ false
   unfolding knownIn
-  writes-unknown h = rw (← ex, ← ee, le-ltb (numberIn n work (d .0)) p own, le-ltb (e .0) p h)
+  writes-unknown h = rw (← R .partner, ← R .number, le-ltb (numberIn n work (d .0)) p own-number, le-ltb (e .0) p h)
 
-  module _ (hk : p ≤ e .0) (l : Bool) (el : l ≡ ltb (deducingRank N n t work j p (d .0)) (j - 1)) where
+  module _ (c : ℕ) (hk : p ≤ e .0) {l : Bool} (el : l ≡ ltb (deducingRank N n t work j p (d .0)) (j - 1)) where
     pub writes-deduced : l ≡ true → Nothing ≡ writesIn N n t work c j p
     unfolding writesIn writesBy
-    writes-deduced h = rw (← ed, writes-unknown hk, ← el, h)
+    writes-deduced h = rw (← R .dart, writes-unknown hk, ← el, h)
 
     module _ (hl : l ≡ false) where
       pub writes-border : x .0 ≡ d .0 → One Border ≡ writesIn N n t work c j p
       unfolding writesIn writesBy
-      writes-border h = rw (← ed, writes-unknown hk, ← el, hl, ← ex, eq-eqb (x .0) (d .0) h)
+      writes-border h = rw (← R .dart, writes-unknown hk, ← el, hl, ← R .partner, eq-eqb (x .0) (d .0) h)
 
       module _ (hx : x .0 ≢ d .0) where
         pub writes-new : c ≤ e .0 → One New ≡ writesIn N n t work c j p
         unfolding writesIn writesBy
-        writes-new h = rw (← ed, writes-unknown hk, ← el, hl, ← ex, ne-eqb (x .0) (d .0) hx, ← ee, le-leb c (e .0) h)
+        writes-new h = rw (← R .dart, writes-unknown hk, ← el, hl, ← R .partner, ne-eqb (x .0) (d .0) hx, ← R .number, le-leb c (e .0) h)
 
         pub writes-index : e .0 < c → One (Index e) ≡ writesIn N n t work c j p
         unfolding writesIn writesBy
-        writes-index h = rw (← ed, writes-unknown hk, ← el, hl, ← ex, ne-eqb (x .0) (d .0) hx, ← ee, lt-leb c (e .0) h)
+        writes-index h = rw (← R .dart, writes-unknown hk, ← el, hl, ← R .partner, ne-eqb (x .0) (d .0) hx, ← R .number, lt-leb c (e .0) h)
 
 -- what a step comes to, over what its calls answered
 pub replayed-by : (N n : ℕ) (t work : List ℕ) (c j p : ℕ) (r : Replayed) → r .written ≡ writesIn N n t work c j p → r .count ≡ countAfter (r .written) c
