@@ -38,7 +38,12 @@ module _ (n : ℕ) (names work : List ℕ) (G : Agrees n names work) where
     where
       go : Dec (number names d < length names) → leb (length names) (numberIn n work d) ≡ nameless names d
       go (yes l) = rw (G .numbered d l, lt-leb (length names) (number names d) l, ne-eqb (number names d) (length names) (omega arith))
-      go (no l) = rw (le-leb (length names) (numberIn n work d) (G .unnumbered d (omega arith)), eq-eqb (number names d) (length names) (omega (arith, number-le names d)))
+      go (no l) =
+          rw (
+            le-leb (length names) (numberIn n work d) (G .unnumbered d (omega arith)),
+            eq-eqb (number names d) (length names)
+                (omega (arith, number-le names d)),
+          )
 
 module _ (m : List ℕ) (root : ℕ) (w : Walk) (names work : List ℕ) (v : Inv w) (M : Names m root w names) (A : Valid (w .dim) (w .darts) m)
     (G : Agrees (w .darts) names work) where
@@ -48,7 +53,12 @@ module _ (m : List ℕ) (root : ℕ) (w : Walk) (names work : List ℕ) (v : Inv
   known-same : (j c : ℕ) → j ≤ w .dim → c < w .count → knownIn (w .dim) (w .darts) m work j (gone w j) (name names c) ≡ leanKnown m w names j c
   unfolding knownIn leanKnown
   known-same j c hj hc =
-      rw (below-same (w .darts) names work G (name names c) (gone w j) (position-le j hj), M .back c hc, below-same (w .darts) names work G (link (w .dim) (w .darts) m j (name names c)) (gone w j) (position-le j hj))
+      rw (
+        below-same (w .darts) names work G (name names c) (gone w j) (position-le j hj),
+        M .back c hc,
+        below-same (w .darts) names work G
+            (link (w .dim) (w .darts) m j (name names c)) (gone w j) (position-le j hj),
+      )
 
   module _ (j b : ℕ) (h : head w ≡ Head.at j b) where
     turn : Turn w j b
@@ -73,7 +83,8 @@ module _ (m : List ℕ) (root : ℕ) (w : Walk) (names work : List ℕ) (v : Inv
         let q : name names (number names (across i)) ≡ across i = unfold name in getD-number names (across i) mark (omega (arith, M .len)) in
         sym (rw q at (known-same j (number names (across i)) (turn .next .ranked) l'))
 
-    deduce-scan : (k i : ℕ) → k + i ≡ j - 1 → leanDeduce m w names j b k i ≡ cond (ltb (scan seen k i) (k + i)) (Partner.deduced (number names (across j))) Partner.asked
+    deduce-scan : (k i : ℕ) → k + i ≡ j - 1
+        → leanDeduce m w names j b k i ≡ cond (ltb (scan seen k i) (k + i)) (Partner.deduced (number names (across j))) Partner.asked
     unfolding leanDeduce scan across
     deduce-scan zero i e = rw (le-ltb i (0 + i) (omega arith))
     deduce-scan (suc k) i e = go (deduce-scan k (suc i) (omega arith)) (seen i) refl

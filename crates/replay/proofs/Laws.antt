@@ -1,6 +1,6 @@
 -- What the calls of the replay answered, put together: the tests, and what a step writes one way through the code at a time. Rests on the rules' Lists.
 use Prim.Native.Nat.{ℕ, _-_, _≤_, _<_}
-use mathlib.Core.Path.{_≡_, refl}
+use mathlib.Core.Path.{_≡_}
 use mathlib.Core.Logic.{_≢_}
 use mathlib.Core.Bool.{Bool, true, false}
 use mathlib.Core.List.{List}
@@ -22,7 +22,8 @@ pub known-own : (N n : ℕ) (t work : List ℕ) (j p d x : ℕ) → x ≡ number
 unfolding knownIn
 known-own N n t work j p d x e h = rw (← e, lt-ltb x p h)
 
-pub known-other : (N n : ℕ) (t work : List ℕ) (j p d x y z : ℕ) → x ≡ numberIn n work d → p ≤ x → y ≡ link N n t j d → z ≡ numberIn n work y → ltb z p ≡ knownIn N n t work j p d
+pub known-other : (N n : ℕ) (t work : List ℕ) (j p d x y z : ℕ) → x ≡ numberIn n work d → p ≤ x → y ≡ link N n t j d → z ≡ numberIn n work y
+    → ltb z p ≡ knownIn N n t work j p d
 unfolding knownIn
 known-other N n t work j p d x y z e h e' e'' = rw (← e, le-ltb x p h, ← e', ← e'')
 

@@ -1,5 +1,5 @@
--- The replay goes along the walk of the rules: a finished numbering agrees with the names of every turn, so each turn writes what the walk writes, and what is left to
--- write falls by just that. Rests on Cases and on the walk's Walking.
+-- The replay goes along the walk of the rules: a finished numbering agrees with the names of every turn, so each turn writes what the walk writes, and what
+-- is left to write falls by just that. Rests on Cases and on the walk's Walking.
 use Prim.Native.Nat.{ℕ, zero, suc, _+_, _*_, _-_, _≤_, _<_}
 use mathlib.Core.Path.{_≡_, refl, ap, sym, _∙_}
 use mathlib.Core.Bool.{Bool, true, false, cond}
@@ -11,11 +11,11 @@ use lib.Seq.{getD-append-add}
 use lib.Dec.{eqb, leb}
 use borrow.Author.Tests.{lt-ltb, leb-false, le-ltb}
 use Rattle.rules.specs.declared.WalkNo.{WalkNo}
-use Rattle.rules.specs.declared.Symbol.the-variants.{New, Border, Index}
+use Rattle.rules.specs.declared.Symbol.the-variants.{Index}
 use Rattle.rules.specs.Lists.{listOf, number}
 use Rattle.rules.specs.Map.{mark, link, Valid, Limits}
 use Rattle.rules.specs.Walk.{Walk, Head, head, Partner, partner, Symbol, enough, Written, symbolOf, named, writeSymbol, writeWith, writeAt, writeStep}
-use Rattle.rules.specs.Walk.{Walked, prepend, writeOn, write, walked, namesOf, symbolsOf}
+use Rattle.rules.specs.Walk.{Walked, prepend, writeOn, write, namesOf, symbolsOf}
 use Rattle.rules.specs.Check.{numbering}
 use Rattle.rules.specs.Inner.{Emptied, Lowest}
 use Rattle.rules.proofs.Lists.{length-listOf, getD-listOf}
@@ -23,12 +23,12 @@ use Rattle.rules.proofs.Names.{name}
 use Rattle.rules.proofs.Numbering.{name-number, name-below, names-all}
 use Rattle.walk.specs.Numbers.{numberIn, dartIn, positionsAfter}
 use Rattle.walk.proofs.Rooms.{Agrees}
-use Rattle.walk.proofs.Walking.{Rooted, Walking, ahead, Onward, walking-starts, starts-ahead, kept, ends-named, walking-over, walking-head, walking-heads}
+use Rattle.walk.proofs.Walking.{Rooted, Walking, ahead, walking-starts, starts-ahead, kept, ends-named, walking-over, walking-head, walking-heads}
 use Rattle.walk.proofs.Walking.{walking-own, walking-on}
 use Rattle.replay.specs.declared.Yield.{Yield}
-use Rattle.replay.specs.declared.Yield.the-variants.{Nothing, One}
+use Rattle.replay.specs.declared.Yield.the-variants.{One}
 use Rattle.replay.specs.Replays.{writesBy, writesIn, countAfter, told, Served, NumberedFrom}
-use Rattle.replay.proofs.Cases.{Steps, steps-written}
+use Rattle.replay.proofs.Cases.{steps-written}
 
 -- names and more names
 number-front : (names rest : List ℕ) (d : ℕ) → number names d < length names → number (names ++ rest) d ≡ number names d
@@ -46,7 +46,8 @@ unfolding number
 number-back [] rest d h = omega arith
 number-back (z ∷ names) rest d h = go (number-back names rest d) (eqb z d) h
   where
-    go : (length names ≤ number names d → length names ≤ number (names ++ rest) d) → (t : Bool) → suc (length names) ≤ cond t 0 (suc (number names d)) → suc (length names) ≤ cond t 0 (suc (number (names ++ rest) d))
+    go : (length names ≤ number names d → length names ≤ number (names ++ rest) d) → (t : Bool) → suc (length names) ≤ cond t 0 (suc (number names d))
+        → suc (length names) ≤ cond t 0 (suc (number (names ++ rest) d))
     go rec true h = absurd (omega arith)
     go rec false h = let r = rec (omega arith) in omega arith
 
@@ -57,7 +58,8 @@ named-more Symbol.new names x = (x ∷ [], refl)
 named-more Symbol.border names x = ([], rw append-nil)
 named-more (Symbol.index e) names x = ([], rw append-nil)
 
-step-more : (m : List ℕ) (w w' : Walk) (names names' : List ℕ) (out : List Symbol) → writeStep m w names ≡ Written.wrote out w' names' → (rest : List ℕ) × (names' ≡ names ++ rest)
+step-more : (m : List ℕ) (w w' : Walk) (names names' : List ℕ) (out : List Symbol) → writeStep m w names ≡ Written.wrote out w' names'
+    → (rest : List ℕ) × (names' ≡ names ++ rest)
 unfolding writeStep
 step-more m w w' names names' out e = at (head w) e
   where
@@ -147,7 +149,8 @@ module _ {N n : ℕ} {m : List ℕ} {root : ℕ} (P : Rooted N n m root) {work :
   entry-dart b h =
       let a = listOf n (number (namesOf N n m root)) in
       let la = length-listOf n (number (namesOf N n m root)) in
-      let l : n + b < length (a ++ namesOf N n m root) = simp (length-append, length-listOf) (omega (arith, names-all N n m root (P .ranks) (P .small) (P .dart) (P .valid) (Q .connected))) in
+      let l : n + b < length (a ++ namesOf N n m root) =
+      simp (length-append, length-listOf) (omega (arith, names-all N n m root (P .ranks) (P .small) (P .dart) (P .valid) (Q .connected))) in
       let e : n + b ≡ length a + b = omega arith in
       rw (Q .room) (List·getD-append (a ++ namesOf N n m root) (Q .tail) mark (n + b) l ∙ rw e (getD-append-add a (namesOf N n m root) b mark))
 
@@ -211,7 +214,8 @@ module _ {N n : ℕ} {m : List ℕ} {root : ℕ} (P : Rooted N n m root) {work :
           let A : Valid (R .walking .walk .dim) (R .walking .walk .darts) m = rw (K .dim, K .darts) (P .valid) in
           let G : Agrees (R .walking .walk .darts) (R .walking .names) work = rw (K .darts) (agrees-now (R .walking)) in
           let y = steps-written m root (R .walking .walk) (R .walking .names) work (K .inv) (K .named) A G j (getD ps j 0) (walking-head P (R .walking) j e) in
-          stepping-same work j (getD ps j 0) (K .dim) (K .darts) (R .walking .count) (record { walk = y .walk; after = y .after; step = y .step; count = y .count })
+          stepping-same work j (getD ps j 0) (K .dim) (K .darts) (R .walking .count)
+          (record { walk = y .walk; after = y .after; step = y .step; count = y .count })
 
       -- the turn itself
       pub replay-goes : let s = writesIn N n m work c j (getD ps j 0) in Replaying N n m root (countAfter s c) (positionsAfter j ps) (ss ++ told s)

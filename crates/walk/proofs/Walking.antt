@@ -1,15 +1,15 @@
--- A walk over a map as the loops of the numbering and of the replay go along it: where it stands by the count and the positions, a step by the names alone, and what is
--- still to do. Rests on the rules' Names, Numbering and Lowest, and on Rooms.
+-- A walk over a map as the loops of the numbering and of the replay go along it: where it stands by the count and the positions, a step by the names alone,
+-- and what is still to do. Rests on the rules' Names, Numbering and Lowest, and on Rooms.
 use Prim.Native.Nat.{ℕ, suc, _+_, _-_, _*_, _≤_, _<_}
 use mathlib.Core.Path.{_≡_, refl, ap, sym, _∙_}
 use mathlib.Core.Bool.{Bool, true, false, cond}
 use mathlib.Core.List.{List, [], _∷_, _++_}
 use native.Mathlib.Omega.{arith}
-use lib.ListN.{length, getD, set}
+use lib.ListN.{length, getD}
 use lib.Dec.{eqb}
 use borrow.Author.Tests.{eqb-true, ne-eqb}
 use Rattle.rules.specs.Lists.{number, sum}
-use Rattle.rules.specs.Map.{mark, link, Valid}
+use Rattle.rules.specs.Map.{link, Valid}
 use Rattle.rules.specs.Walk.{Walk, start, Head, head, linkOf, Partner, partner, pass, join, fresh, tie, steps, Symbol, apply, enough}
 use Rattle.rules.specs.Walk.{Written, symbolOf, named, writeSymbol, writeWith, writeAt, writeStep, Walked, prepend, writeOn, write, walked, namesOf}
 use Rattle.rules.specs.Inner.{Inv, Emptied, Lowest}
@@ -113,7 +113,8 @@ unfolding write writeOn writeStep writeAt
 write-end f m w names o = rw o
 
 -- both as the walk counts its steps
-ahead-next : (N n : ℕ) (m : List ℕ) (k : ℕ) (w w' : Walk) (names names' : List ℕ) (out : List Symbol) → k < enough N n → writeStep m w names ≡ Written.wrote out w' names'
+ahead-next : (N n : ℕ) (m : List ℕ) (k : ℕ) (w w' : Walk) (names names' : List ℕ) (out : List Symbol) → k < enough N n
+    → writeStep m w names ≡ Written.wrote out w' names'
     → write (enough N n - k) m w names ≡ prepend out (write (enough N n - suc k) m w' names')
 ahead-next N n m k w w' names names' out l e =
     let f : enough N n - k ≡ suc (enough N n - suc k) = omega arith in
@@ -201,7 +202,8 @@ module _ {N n : ℕ} {m : List ℕ} {root : ℕ} (P : Rooted N n m root) where
 
       -- the head's dart and its own number, in any room that agrees with the names
       pub walking-own : (room : List ℕ) → Agrees n (G .names) room
-          → (dartIn n room (getD ps j 0) ≡ name (G .names) (getD ps j 0)) × (dartIn n room (getD ps j 0) < n) × (numberIn n room (dartIn n room (getD ps j 0)) ≡ getD ps j 0)
+          → (dartIn n room (getD ps j 0) ≡ name (G .names) (getD ps j 0)) × (dartIn n room (getD ps j 0) < n)
+          × (numberIn n room (dartIn n room (getD ps j 0)) ≡ getD ps j 0)
       walking-own room R =
           let l = walking-heads .0 in
           let d = R .dart (getD ps j 0) l in

@@ -1,10 +1,10 @@
--- The writer beside the replay: what is put is the code of the symbols so far, which begin those of the whole walk. Rests on the replay's Replays and the pen's Laws.
-use Prim.Native.Nat.{ℕ, _+_, _*_, _≤_, _<_}
-use mathlib.Core.Path.{_≡_, refl, ap, sym, _∙_}
+-- The writer beside the replay: what is put is the code of the symbols so far, which begin those of the whole walk. Rests on the replay's Replays and the
+-- pen's Laws.
+use Prim.Native.Nat.{ℕ, _+_, _≤_, _<_}
+use mathlib.Core.Path.{_≡_, ap, sym, _∙_}
 use mathlib.Core.List.{List, [], _∷_, _++_, append-nil}
 use native.Mathlib.Omega.{arith}
 use lib.ListN.{length, getD, length-append}
-use Rattle.rules.specs.declared.WalkNo.{WalkNo}
 use Rattle.rules.specs.declared.Symbol as rules
 use Rattle.rules.specs.declared.Symbol.the-variants.{New, Border, Index}
 use Rattle.rules.specs.Symbols.{toldSymbol}
@@ -30,7 +30,8 @@ pub put-nothing : {s : Yield} → s ≡ Nothing → (start : ℕ) (pen : Pen) (o
 unfolding codes
 put-nothing e start pen out = rw e (put-none start pen out)
 
-pub put-one : {s : Yield} (x : rules.Symbol) → s ≡ One x → {start : ℕ} {p r : Pen} {o o' : List ℕ} → Put (code (toldSymbol x)) start p r o o' → Put (codes (told s)) start p r o o'
+pub put-one : {s : Yield} (x : rules.Symbol) → s ≡ One x → {start : ℕ} {p r : Pen} {o o' : List ℕ} → Put (code (toldSymbol x)) start p r o o'
+    → Put (codes (told s)) start p r o o'
 unfolding codes
 put-one x e u = rw (e, append-nil) u
 
@@ -50,7 +51,8 @@ pub record Writing (N n : ℕ) (m : List ℕ) (root c : ℕ) (ps : List ℕ) (st
   pub replaying : Replaying N n m root c ps symbols
   pub put : Put (codes symbols) start pen r out out'
 
-module _ {N n : ℕ} {m : List ℕ} {root : ℕ} (P : Rooted N n m root) {work : List ℕ} (Q : NumberedFrom N n m root work) {start : ℕ} {pen : Pen} {out : List ℕ} where
+module _ {N n : ℕ} {m : List ℕ} {root : ℕ} (P : Rooted N n m root) {work : List ℕ} (Q : NumberedFrom N n m root work) {start : ℕ} {pen : Pen}
+    {out : List ℕ} where
   pub writing-starts : Writing N n m root 1 (0 ∷ 0 ∷ 0 ∷ 0 ∷ 0 ∷ 0 ∷ 0 ∷ []) start pen pen out out
   unfolding codes
   writing-starts = record { symbols = []; replaying = replay-starts P Q; put = put-none start pen out }

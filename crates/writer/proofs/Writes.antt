@@ -1,5 +1,5 @@
 -- The write call taken apart as the code takes it: the check's refusals, then 10, then the page. Rests on the rules' Check and Streams, and on Replays.
-use Prim.Native.Nat.{ℕ, _+_, _*_, _-_, _/_, _≤_, _<_, _^_, min}
+use Prim.Native.Nat.{ℕ, _+_, _*_, _-_, _≤_, _<_, _^_, min}
 use mathlib.Core.Path.{_≡_, refl, ap, sym, _∙_}
 use mathlib.Core.Logic.{_≢_}
 use mathlib.Core.Bool.{Bool}
@@ -87,7 +87,8 @@ module _ (N n root : ℕ) (t work : List ℕ) (c : CheckAnswer) (ec : c ≡ chec
 
   -- the check's refusals
   pub write-refused : (from : ℕ) (out : List ℕ) → c .number ≢ 0
-      → (record { number = c .number; place = c .place; written = 0; length = 0 } ≡ writeAnswer N n root from t work out) × (out ≡ writeOut N n root from t work out)
+      → (record { number = c .number; place = c .place; written = 0; length = 0 } ≡ writeAnswer N n root from t work out)
+      × (out ≡ writeOut N n root from t work out)
   unfolding writeAnswer writeOut writePage writeVerdict startVerdict pageAfter writeAnswerOf
   write-refused from out h = rw (refused-verdict h) ((refl, refl))
 
@@ -110,7 +111,8 @@ module _ (N n root : ℕ) (t work : List ℕ) (c : CheckAnswer) (ec : c ≡ chec
         rw (fine-verdict h, ← e, lt-ltb l from q) ((refl, eo ∙ rw (z, take-nil {A = ℕ} (length out))))
 
     -- the page
-    pub write-page : (from l : ℕ) (out out' : List ℕ) (k : ℕ) → l ≡ length (stream N n t root) → from ≤ l → out' ≡ penned (stream N n t root) from out → k ≡ min (length out) (l - from)
+    pub write-page : (from l : ℕ) (out out' : List ℕ) (k : ℕ) → l ≡ length (stream N n t root) → from ≤ l → out' ≡ penned (stream N n t root) from out
+        → k ≡ min (length out) (l - from)
         → (record { number = 0; place = 0; written = k; length = l } ≡ writeAnswer N n root from t work out) × (out' ≡ writeOut N n root from t work out)
     unfolding writeAnswer writeOut writePage writeVerdict startVerdict pageAfter writeAnswerOf refuseIf penned pageOf
     write-page from l out out' k e q eo ek =

@@ -32,7 +32,8 @@ headed : (c : tie.After-put-number) → let a = start (few c) .args in
 headed c = put-header _ _ (few c .put-few .ensures) (c .put-number .ensures)
 
 streamed : (c : tie.After-put-symbols) → let a = begun c .args in (root : ℕ) → NumberedFrom (a .dim) (a .darts) (a .tables .now) root (a .work .now)
-    → Put (streamBits (a .dim) (a .darts) (a .tables .now) root) (a .start) blankPen (c .put-symbols .result) (a .out .now) (c .put-symbols .last .1 .1 .1 .1 .1 .1 .0)
+    → Put (streamBits (a .dim) (a .darts) (a .tables .now) root) (a .start) blankPen (c .put-symbols .result) (a .out .now)
+    (c .put-symbols .last .1 .1 .1 .1 .1 .1 .0)
 streamed c root q = put-stream _ _ _ root (headed (head c)) (c .put-symbols .ensures root q)
 
 -- and bits more fit

@@ -1,5 +1,5 @@
--- `writer::put_symbols` meets its contract: the replay goes along the walk, the queues below j are empty, and what was put are the codes of the symbols so far. A turn
--- makes a step or goes on to the next rank. Assumes nothing.
+-- `writer::put_symbols` meets its contract: the replay goes along the walk, the queues below j are empty, and what was put are the codes of the symbols so
+-- far. A turn makes a step or goes on to the next rank. Assumes nothing.
 use Prim.Native.Nat.{ℕ, _+_, _*_, _-_, _≤_, _<_}
 use mathlib.Core.Path.{_≡_, refl, ap}
 use native.Mathlib.Omega.{arith}
@@ -99,7 +99,8 @@ nearer c =
 -- and what it yields is put
 goes : (c : tie.After-put-yield Inv-loop μ-loop) → let k = step-of c in let t = turn (k .before) in let a = start t .args in
     (root : ℕ) → NumberedFrom (a .dim) (a .darts) (a .tables .now) root (a .work .now)
-    → Writing (a .dim) (a .darts) (a .tables .now) root (k .step .result .count) (k .step .last .1 .1 .0) (a .start) (a .pen) (c .put-yield .result) (a .out .now)
+    → Writing (a .dim) (a .darts) (a .tables .now) root (k .step .result .count) (k .step .last .1 .1 .0) (a .start) (a .pen) (c .put-yield .result)
+    (a .out .now)
     (c .put-yield .last .1 .1 .1 .0)
 goes c root q =
     let k = step-of c in

@@ -22,7 +22,8 @@ abbrev passed : tie.After-emit → tie.Else1
 passed c = c .before .before .before
 
 -- the work room then holds the numbering, and the whole stream was put, as much of it as falls into the page
-numbered : (c : tie.Else1) → let a = start (checked c) .args in NumberedFrom (a .dim) (a .darts) (a .tables .now) (a .root) (checked c .check .last .1 .1 .1 .1 .0)
+numbered : (c : tie.Else1)
+    → let a = start (checked c) .args in NumberedFrom (a .dim) (a .darts) (a .tables .now) (a .root) (checked c .check .last .1 .1 .1 .1 .0)
 numbered c = let k = checked c in write-numbered _ _ _ _ (start k .args .work .now) _ (k .check .ensures .0) (c .if1 .left) _ (k .check .ensures .1)
 
 put : (c : tie.After-emit) → let a = start (checked (passed c)) .args in let s = stream (a .dim) (a .darts) (a .tables .now) (a .root) in
@@ -98,7 +99,8 @@ returns-3 c =
     let a = start k .args in
     let (l, o) = put e in
     let (p, q) =
-    write-page _ _ _ _ (a .work .now) _ (k .check .ensures .0) (passed e .if1 .left) (a .start) _ (a .out .now) _ (c .least .result) l (c .before .if2 .left) o (omega arith) in
+    write-page _ _ _ _ (a .work .now) _ (k .check .ensures .0) (passed e .if1 .left) (a .start) _ (a .out .now) _ (c .least .result) l
+    (c .before .if2 .left) o (omega arith) in
     (p, k .check .ensures .1, q)
 
 pub write-spec : {M : Type 1} → statement M
