@@ -88,7 +88,8 @@ pub fn misbuilt(tables: &[u16], dim: usize, darts: usize) -> CheckAnswer
 
 // The check of posted tables.
 pub fn check(dim: usize, darts: usize, root: usize, tables: &[u16], work: &mut [u16]) -> CheckAnswer
-    ensures { λ r. ⌜ (r ≡ checkAnswer dim darts root (now (tables .entry)) (now (work .entry))) × (now (work .exit) ≡ checkWork dim darts root (now (tables .entry)) (now (work .entry))) ⌝ }
+    ensures { λ r. ⌜ (r ≡ checkAnswer dim darts root (now (tables .entry)) (now (work .entry)))
+        × (now (work .exit) ≡ checkWork dim darts root (now (tables .entry)) (now (work .entry))) ⌝ }
 {
     let first = misfit(dim, darts, root, tables.len(), work.len());
     if first != 0 {

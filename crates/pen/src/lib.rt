@@ -1,4 +1,5 @@
-// Bits out: a pen gathers bits into bytes, most significant first, and stores only the bytes that fall into a page of the stream.
+// Bits out: a pen gathers bits into bytes, most significant first, and stores only the bytes that fall into a page
+// of the stream.
 use rules::Symbol;
 ghost use mathlib.Core.Path.{_≡_};
 ghost use mathlib.Core.Bool.{Bool};
@@ -80,7 +81,8 @@ pub fn put_symbol(pen: Pen, s: Symbol, start: usize, out: &mut [u8]) -> Pen
 // Zero bits fill the last byte.
 pub fn fill(pen: Pen, start: usize, out: &mut [u8])
     requires { ⌜ PenFits 0 pen ⌝ }
-    ensures { λ r. ⌜ ((bs : List Bool) (out0 : List ℕ) → Holds bs start out0 pen (now (out .entry)) → now (out .exit) ≡ penned (filled bs) start out0) ⌝ }
+    ensures { λ r. ⌜ ((bs : List Bool) (out0 : List ℕ) → Holds bs start out0 pen (now (out .entry))
+        → now (out .exit) ≡ penned (filled bs) start out0) ⌝ }
 {
     if 0 < pen.bits {
         let left = 8 - pen.bits;

@@ -1,5 +1,5 @@
--- The replay: what a step writes is told by walk numbers and positions alone, without queues and without a table of known links. The laws of `proofs/` tie this
--- to the walk of the rules.
+-- The replay: what a step writes is told by walk numbers and positions alone, without queues and without a table of known links. The laws of
+-- `proofs/` tie this to the walk of the rules.
 use Prim.Native.Nat.{ℕ, _+_, _*_, _-_, _≤_, _<_}
 use mathlib.Core.Path.{_≡_}
 use mathlib.Core.List.{List, [], _∷_, _++_}

@@ -33,7 +33,8 @@ pub fn known(
     d: Dart,
     position: u16,
 ) -> bool
-    requires { ⌜ Limits dim darts (now tables) × Valid dim darts (now tables) × (j ≤ dim) × (darts ≤ length (now work)) × (d .0 < darts) ⌝ }
+    requires { ⌜ Limits dim darts (now tables) × Valid dim darts (now tables) × (j ≤ dim)
+        × (darts ≤ length (now work)) × (d .0 < darts) ⌝ }
     ensures { λ r. ⌜ r ≡ knownIn dim darts (now (tables .entry)) (now (work .entry)) j position (d .0) ⌝ }
 {
     if walk::number_of(work, darts, d).0 < position {
@@ -52,8 +53,11 @@ pub fn deduced(
     d: Dart,
     position: u16,
 ) -> bool
-    requires { ⌜ Limits dim darts (now tables) × Valid dim darts (now tables) × (j ≤ dim) × (darts ≤ length (now work)) × (d .0 < darts) × (knownIn dim darts (now tables) (now work) j position (d .0) ≡ false) ⌝ }
-    ensures { λ r. ⌜ r ≡ ltb (deducingRank dim darts (now (tables .entry)) (now (work .entry)) j position (d .0)) (j - 1) ⌝ }
+    requires { ⌜ Limits dim darts (now tables) × Valid dim darts (now tables) × (j ≤ dim)
+        × (darts ≤ length (now work)) × (d .0 < darts)
+        × (knownIn dim darts (now tables) (now work) j position (d .0) ≡ false) ⌝ }
+    ensures { λ r. let rank = deducingRank dim darts (now (tables .entry)) (now (work .entry)) j position (d .0) in
+        ⌜ r ≡ ltb rank (j - 1) ⌝ }
 {
     let mut i = 0;
     while i + 1 < j {
@@ -80,7 +84,9 @@ pub fn writes(
     j: usize,
     position: u16,
 ) -> Yield
-    requires { ⌜ Limits dim darts (now tables) × Valid dim darts (now tables) × (j ≤ dim) × (darts + position < length (now work)) × (dartIn darts (now work) position < darts) × (position ≤ numberIn darts (now work) (dartIn darts (now work) position)) ⌝ }
+    requires { ⌜ Limits dim darts (now tables) × Valid dim darts (now tables) × (j ≤ dim)
+        × (darts + position < length (now work)) × (dartIn darts (now work) position < darts)
+        × (position ≤ numberIn darts (now work) (dartIn darts (now work) position)) ⌝ }
     ensures { λ r. ⌜ r ≡ writesIn dim darts (now (tables .entry)) (now (work .entry)) count j position ⌝ }
 {
     let d = walk::dart_of(work, darts, WalkNo(position));
@@ -127,8 +133,11 @@ pub fn step(
     j: usize,
     count: u16,
 ) -> Replayed
-    requires { ⌜ Limits dim darts (now tables) × Valid dim darts (now tables) × (j ≤ dim) × (length (now positions) ≡ 7) × Served darts (now work) count (getD (now positions) j 0) ⌝ }
-    ensures { λ r. ⌜ (r ≡ replayedIn dim darts (now (tables .entry)) (now (work .entry)) count j (getD (now (positions .entry)) j 0)) × (now (positions .exit) ≡ positionsAfter j (now (positions .entry))) ⌝ }
+    requires { ⌜ Limits dim darts (now tables) × Valid dim darts (now tables) × (j ≤ dim)
+        × (length (now positions) ≡ 7) × Served darts (now work) count (getD (now positions) j 0) ⌝ }
+    ensures { λ r. let p = getD (now (positions .entry)) j 0 in
+        ⌜ (r ≡ replayedIn dim darts (now (tables .entry)) (now (work .entry)) count j p)
+        × (now (positions .exit) ≡ positionsAfter j (now (positions .entry))) ⌝ }
 {
     let position = positions[j];
     positions[j] = position + 1;

@@ -38,8 +38,11 @@ pub fn put_symbols(
     start: usize,
     out: &mut [u8],
 ) -> Pen
-    requires { ⌜ Limits dim darts (now tables) × Valid dim darts (now tables) × (2 * darts ≤ length (now work)) × PenFits 401422 pen × ((root : ℕ) × NumberedFrom dim darts (now tables) root (now work)) ⌝ }
-    ensures { λ q. ⌜ ((root : ℕ) → NumberedFrom dim darts (now (tables .entry)) root (now (work .entry)) → Put (codes (symbolsOf dim darts (now (tables .entry)) root)) start pen q (now (out .entry)) (now (out .exit))) ⌝ }
+    requires { ⌜ Limits dim darts (now tables) × Valid dim darts (now tables) × (2 * darts ≤ length (now work))
+        × PenFits 401422 pen × ((root : ℕ) × NumberedFrom dim darts (now tables) root (now work)) ⌝ }
+    ensures { λ q. ⌜ ((root : ℕ) → NumberedFrom dim darts (now (tables .entry)) root (now (work .entry))
+        → Put (codes (symbolsOf dim darts (now (tables .entry)) root)) start pen q (now (out .entry))
+        (now (out .exit))) ⌝ }
 {
     let mut positions = [0u16; 7];
     let mut last = pen;
@@ -66,7 +69,8 @@ pub fn put_symbols(
 // How many bytes a pen's bits come to once the last is filled.
 pub fn bytes_of(pen: Pen) -> usize
     requires { ⌜ PenFits 8 pen ⌝ }
-    ensures { λ r. ⌜ ((bs : List Bool) (start : ℕ) (out0 out : List ℕ) → Holds bs start out0 pen out → r ≡ length (filled bs)) ⌝ }
+    ensures { λ r. ⌜ ((bs : List Bool) (start : ℕ) (out0 out : List ℕ) → Holds bs start out0 pen out
+        → r ≡ length (filled bs)) ⌝ }
 {
     if 0 < pen.bits {
         return pen.at + 1;
@@ -83,8 +87,11 @@ pub fn emit(
     start: usize,
     out: &mut [u8],
 ) -> usize
-    requires { ⌜ Limits dim darts (now tables) × Valid dim darts (now tables) × (2 * darts ≤ length (now work)) × ((root : ℕ) × NumberedFrom dim darts (now tables) root (now work)) ⌝ }
-    ensures { λ r. ⌜ ((root : ℕ) → NumberedFrom dim darts (now (tables .entry)) root (now (work .entry)) → (r ≡ length (stream dim darts (now (tables .entry)) root)) × (now (out .exit) ≡ penned (stream dim darts (now (tables .entry)) root) start (now (out .entry)))) ⌝ }
+    requires { ⌜ Limits dim darts (now tables) × Valid dim darts (now tables) × (2 * darts ≤ length (now work))
+        × ((root : ℕ) × NumberedFrom dim darts (now tables) root (now work)) ⌝ }
+    ensures { λ r. ⌜ ((root : ℕ) → NumberedFrom dim darts (now (tables .entry)) root (now (work .entry))
+        → (r ≡ length (stream dim darts (now (tables .entry)) root))
+        × (now (out .exit) ≡ penned (stream dim darts (now (tables .entry)) root) start (now (out .entry)))) ⌝ }
 {
     let none = Pen {
         at: 0,
@@ -118,7 +125,11 @@ pub fn write(
     work: &mut [u16],
     out: &mut [u8],
 ) -> WriteAnswer
-    ensures { λ r. ⌜ (r ≡ writeAnswer dim darts root start (now (tables .entry)) (now (work .entry)) (now (out .entry))) × (now (work .exit) ≡ writeWork dim darts root (now (tables .entry)) (now (work .entry))) × (now (out .exit) ≡ writeOut dim darts root start (now (tables .entry)) (now (work .entry)) (now (out .entry))) ⌝ }
+    ensures { λ r. ⌜
+        (r ≡ writeAnswer dim darts root start (now (tables .entry)) (now (work .entry)) (now (out .entry)))
+        × (now (work .exit) ≡ writeWork dim darts root (now (tables .entry)) (now (work .entry)))
+        × (now (out .exit)
+        ≡ writeOut dim darts root start (now (tables .entry)) (now (work .entry)) (now (out .entry))) ⌝ }
 {
     let c = checker::check(dim, darts, root, tables, work);
     if c.number != 0 {
