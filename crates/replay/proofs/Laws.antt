@@ -13,6 +13,7 @@ use Rattle.rules.specs.Lists.{first}
 use Rattle.rules.specs.Map.{link}
 use Rattle.rules.proofs.Lists.{Sought, sought-here, sought-end}
 use Rattle.walk.specs.Numbers.{numberIn, dartIn}
+use Rattle.walk.proofs.Laws.{Looked}
 use Rattle.replay.specs.declared.Yield.the-variants.{Nothing, One}
 use Rattle.replay.specs.declared.Replayed.{Replayed}
 use Rattle.replay.specs.Replays.{knownIn, deducingRank, writesBy, writesIn, countAfter, replayedIn}
@@ -27,23 +28,20 @@ pub known-other : (N n : ℕ) (t work : List ℕ) (j p d x y z : ℕ) → x ≡ 
 unfolding knownIn
 known-other N n t work j p d x y z e h e' e'' = rw (← e, le-ltb x p h, ← e', ← e'')
 
+-- where ai(d) is d itself nothing more is known there
+pub unknown-there : (N n : ℕ) (t work : List ℕ) (j p : ℕ) {x y d : ℕ} → x ≡ y → x ≡ d → knownIn N n t work j p d ≡ false → knownIn N n t work j p y ≡ false
+unknown-there N n t work j p e f h = rw (← e, f) h
+
 pub found-below : {f : ℕ → Bool} {k i : ℕ} → Sought f k i → i < k → f i ≡ true → true ≡ ltb (first f k) k
 found-below {f} {k} {i} s h q = rw (← sought-here s h q, lt-ltb i k h)
 
 pub found-none : {f : ℕ → Bool} {k i : ℕ} → Sought f k i → k ≤ i → false ≡ ltb (first f k) k
 found-none {f} {k} {i} s h = rw (← sought-end s h, le-ltb i k h)
 
--- what the three reads of a step answered: the dart of position p, its partner and the partner's number; the dart's own number is not below the position
-pub record Read (N n : ℕ) (t work : List ℕ) (j p : ℕ) (d x : Dart) (e : WalkNo) : Type 0 where
-  pub dart : d .0 ≡ dartIn n work p
-  pub own : p ≤ numberIn n work (dartIn n work p)
-  pub partner : x .0 ≡ link N n t j (d .0)
-  pub number : e .0 ≡ numberIn n work (x .0)
-
--- what a step writes, one way through the code at a time
-module _ {N n : ℕ} {t work : List ℕ} {j p : ℕ} {d x : Dart} {e : WalkNo} (R : Read N n t work j p d x e) where
+-- what a step writes, one way through the code at a time: the dart's own number is not below the position
+module _ {N n : ℕ} {t work : List ℕ} {j p : ℕ} {d x : Dart} {e : WalkNo} (R : Looked N n t work j p d x e) (own : p ≤ numberIn n work (dartIn n work p)) where
   own-number : p ≤ numberIn n work (d .0)
-  own-number = rw (R .dart) (R .own)
+  own-number = rw (R .dart) own
 
   pub writes-known : (c : ℕ) → e .0 < p → Nothing ≡ writesIn N n t work c j p
   unfolding writesIn writesBy knownIn
