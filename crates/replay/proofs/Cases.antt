@@ -24,6 +24,14 @@ use Rattle.walk.proofs.Rooms.{Agrees, nameless}
 use Rattle.replay.specs.declared.Yield.{Yield}
 use Rattle.replay.specs.Replays.{knownIn, deducingRank, writesBy, writesIn, countAfter, told}
 
+-- a step of the rules that writes s
+pub record Stepping (m : List ℕ) (w : Walk) (names : List ℕ) (s : Yield) : Type 0 where
+  pub walk : Walk
+  pub after : List ℕ
+  pub step : writeStep m w names ≡ Written.wrote (told s) walk after
+  pub count : walk .count ≡ countAfter s (w .count)
+
+-- the numbers of the room are those of the names, as far as the tests ask
 module _ (n : ℕ) (names work : List ℕ) (G : Agrees n names work) where
   -- below a position that is at most the count the two numbers are the same
   below-same : (d p : ℕ) → p ≤ length names → ltb (numberIn n work d) p ≡ ltb (number names d) p
@@ -129,18 +137,12 @@ module _ (m : List ℕ) (root : ℕ) (w : Walk) (names work : List ℕ) (v : Inv
         rw (e, p, q, ← M .len, new-same (w .darts) names work G (link (w .dim) (w .darts) m j (name names b)))
 
     -- a step of the rules and what is written by numbers are one
-    pub record Steps (s : Yield) : Type 0 where
-      pub walk : Walk
-      pub after : List ℕ
-      pub step : writeStep m w names ≡ Written.wrote (told s) walk after
-      pub count : walk .count ≡ countAfter s (w .count)
-
-    pub steps-written : Steps written
+    pub steps-written : Stepping m w names written
     unfolding writesBy writeStep writeAt writeWith writeSymbol symbolOf named across knows deduces name apply tie pass join fresh
     steps-written = go knows deduces refl refl
       where
         asked : (a c : Bool) → eqb (across j) (name names b) ≡ a → nameless names (across j) ≡ c → partner w j b ≡ Partner.asked
-            → Steps (writesBy false false a c (numberIn (w .darts) work (across j)))
+            → Stepping m w names (writesBy false false a c (numberIn (w .darts) work (across j)))
         asked true c p q r = record { walk = apply w j b Symbol.border; after = names; step = rw (h, r, p); count = refl }
         asked false true p q r = record { walk = apply w j b Symbol.new; after = names ++ (across j ∷ []); step = rw (h, r, p, q); count = omega arith }
         asked false false p q r =
@@ -152,7 +154,7 @@ module _ (m : List ℕ) (root : ℕ) (w : Walk) (names work : List ℕ) (v : Inv
               count = refl;
             }
 
-        go : (k d : Bool) → knows ≡ k → deduces ≡ d → Steps written
+        go : (k d : Bool) → knows ≡ k → deduces ≡ d → Stepping m w names written
         go true d p q = rw (written-by true d p q) (record { walk = pass w j b; after = names; step = rw (h, partner-by, p); count = refl })
         go false true p q = rw (written-by false true p q) (record {
           walk = tie w j b (number names (across j));

@@ -12,7 +12,8 @@ use Rattle.rules.proofs.Lowest.{emptied-none, emptied-next}
 use Rattle.walk.proofs.Walking.{Rooted, walking-less, emptied-after}
 use Rattle.replay.specs.declared.Replayed.{Replayed}
 use Rattle.replay.specs.Replays.{NumberedFrom}
-use Rattle.replay.proofs.Replays.{rooted-by, replay-served}
+use Rattle.replay.proofs.Finished.{rooted-by}
+use Rattle.replay.proofs.Replays.{replay-served}
 use Rattle.writer.proofs.Replays.{Writing, yield-fits, writing-starts, writing-fits, writing-ends, writing-goes}
 use Rattle.writer.proofs.put_symbols.Statement.{statement}
 use Rattle.writer.proofs.put_symbols.Tie as tie
