@@ -25,5 +25,6 @@ pack-last (suc k) bs =
 pub pack-whole : (k : ℕ) (bs more : List Bool) → 8 * k ≤ length bs → length bs + length more ≡ 8 * suc k
     → pack (suc k) (bs ++ more) ≡ pack k bs ++ (value (drop (8 * k) bs ++ more) ∷ [])
 pack-whole k bs more h w =
-    let e : take 8 (drop (8 * k) bs ++ more) ≡ drop (8 * k) bs ++ more = take-all 8 (drop (8 * k) bs ++ more) (simp (length-append, length-drop) (omega arith)) in
+    let e : take 8 (drop (8 * k) bs ++ more) ≡ drop (8 * k) bs ++ more =
+    take-all 8 (drop (8 * k) bs ++ more) (simp (length-append, length-drop) (omega arith)) in
     pack-last k (bs ++ more) ∙ rw (pack-front k bs more h, drop-append-le (8 * k) bs more h, e)

@@ -11,14 +11,13 @@ use lib.Seq.{take-nil, drop-nil, take-all, take-append-le, drop-append-le, drop-
 use lib.Arith.{digits-lt}
 use lib.Pow.{pow-add, pow-pos, pow-mono, shl-exact, shr-lt}
 use borrow.Author.Tests.{lt-ltb, le-ltb}
-use Rattle.rules.specs.declared.Dart.{Dart}
 use Rattle.rules.specs.declared.WalkNo.{WalkNo}
-use Rattle.rules.specs.Stream.{bitsOf, value, pack, code, codes, filled}
+use Rattle.rules.specs.declared.Symbol.{Symbol}
+use Rattle.rules.specs.declared.Symbol.the-variants.{New, Border, Index}
+use Rattle.rules.specs.Symbols.{toldSymbol}
+use Rattle.rules.specs.Stream.{bitsOf, value, pack, code, filled}
 use Rattle.rules.specs.Writing.{pageOf}
 use Rattle.rules.proofs.Codes.{length-pack, length-bits, value-lt, value-bits, value-append, value-zeros, bits-join, bits-split, filled-exact}
-use Rattle.walk.specs.declared.Output.{Output}
-use Rattle.walk.specs.declared.Output.the-variants.{Nothing, Border, New, Index}
-use Rattle.walk.proofs.Laws.{symbolsFor}
 use Rattle.pen.specs.declared.Pen.{Pen}
 use Rattle.pen.specs.Pens.{stored, penned, PenFits, Holds, Put, IndexFits}
 use Rattle.pen.proofs.Bits.{pack-front, pack-whole}
@@ -53,7 +52,8 @@ module _ (done : List ℕ) (x start : ℕ) (out : List ℕ) where
   from : start ≤ length done → drop start (done ++ (x ∷ [])) ≡ drop start done ++ (x ∷ [])
   from h = drop-append-le start done (x ∷ []) h
 
-  more-within : start ≤ length done → length done - start < length out → penned (done ++ (x ∷ [])) start out ≡ set (penned done start out) (length done - start) x
+  more-within : start ≤ length done → length done - start < length out
+      → penned (done ++ (x ∷ [])) start out ≡ set (penned done start out) (length done - start) x
   unfolding penned pageOf
   more-within h l =
       let d = drop start done in
@@ -73,14 +73,17 @@ module _ (done : List ℕ) (x start : ℕ) (out : List ℕ) where
   penned-more : penned (done ++ (x ∷ [])) start out ≡ stored start (length done) x (penned done start out)
   penned-more = go (decLt (length done) start) (decLt (length done - start) (length out))
     where
-      go : Dec (length done < start) → Dec (length done - start < length out) → penned (done ++ (x ∷ [])) start out ≡ stored start (length done) x (penned done start out)
+      go : Dec (length done < start) → Dec (length done - start < length out)
+          → penned (done ++ (x ∷ [])) start out ≡ stored start (length done) x (penned done start out)
       go (yes h) d = more-before h ∙ stored-before start (length done) x (penned done start out) h
       go (no h) (yes l) = more-within (omega arith) l ∙ stored-within start (length done) x (penned done start out) (omega arith)
-      go (no h) (no l) = more-past (omega arith) (omega arith) ∙ stored-past start (length done) x (penned done start out) (omega arith) (omega (arith, penned-length))
+      go (no h) (no l) =
+          more-past (omega arith) (omega arith) ∙ stored-past start (length done) x (penned done start out) (omega arith) (omega (arith, penned-length))
 
 -- nothing put, and bits after bits
 pub put-none : (start : ℕ) (pen : Pen) (out : List ℕ) → Put [] start pen pen out out
-put-none start pen out = record { holds = λ bs out0 h. rw append-nil h; fits = λ k f. record { room = omega (arith, f .room); inByte = f .inByte; holds = f .holds } }
+put-none start pen out =
+    record { holds = λ bs out0 h. rw append-nil h; fits = λ k f. record { room = omega (arith, f .room); inByte = f .inByte; holds = f .holds } }
 
 pub put-both : {a b : List Bool} {start : ℕ} {p q r : Pen} {o o' o'' : List ℕ} → Put a start p q o o' → Put b start q r o' o'' → Put (a ++ b) start p r o o''
 put-both {a} {b} {start} {p} {q} {r} {o} {o'} {o''} u v = record {
@@ -128,7 +131,8 @@ module _ {bs : List Bool} {start : ℕ} {out0 : List ℕ} {pen : Pen} {out : Lis
 
   -- bits that make a byte whole
   holds-whole : (more : List Bool) → 0 < length more → pen .bits + length more ≡ 8
-      → Holds (bs ++ more) start out0 (record { at = pen .at + 1; bits = 0; value = 0 }) (stored start (pen .at) (pen .value * 2 ^ length more + value more) out)
+      → Holds (bs ++ more) start out0 (record { at = pen .at + 1; bits = 0; value = 0 })
+      (stored start (pen .at) (pen .value * 2 ^ length more + value more) out)
   unfolding value
   holds-whole more some full =
       let n : length (bs ++ more) ≡ length bs + length more = length-append bs more in
@@ -143,13 +147,15 @@ module _ {bs : List Bool} {start : ℕ} {out0 : List ℕ} {pen : Pen} {out : Lis
       }
 
   -- the fill
-  pub fill-more : {j : ℕ} → PenFits j pen → 0 < pen .bits → (out' : List ℕ) → out' ≡ stored start (pen .at) (pen .value * 2 ^ (8 - pen .bits) % 65536) out → out' ≡ penned (filled bs) start out0
+  pub fill-more : {j : ℕ} → PenFits j pen → 0 < pen .bits → (out' : List ℕ) → out' ≡ stored start (pen .at) (pen .value * 2 ^ (8 - pen .bits) % 65536) out
+      → out' ≡ penned (filled bs) start out0
   fill-more f some out' e =
       let hb = h .bits in
       let left = 8 - pen .bits in
       let n : length (replicate left false) ≡ left = length-replicate left false in
       let w : length bs + left ≡ 8 * suc (length bs / 8) = omega arith in
-      let v : value (drop (8 * (length bs / 8)) bs ++ replicate left false) ≡ pen .value * 2 ^ left = rw (value-all (replicate left false), n, value-zeros left) (omega arith) in
+      let v : value (drop (8 * (length bs / 8)) bs ++ replicate left false) ≡ pen .value * 2 ^ left =
+      rw (value-all (replicate left false), n, value-zeros left) (omega arith) in
       let g : filled bs ≡ pack (suc (length bs / 8)) (bs ++ replicate left false) = filled-exact bs left (suc (length bs / 8)) w (omega arith) in
       rw (e, shifted f left (omega arith), g, ← v) (whole (replicate left false) (omega arith))
 
@@ -160,7 +166,8 @@ module _ {bs : List Bool} {start : ℕ} {out0 : List ℕ} {pen : Pen} {out : Lis
 
 -- bits more, within a byte or to its end
 module _ (start : ℕ) (pen : Pen) (out : List ℕ) (more : List Bool) where
-  put-within : pen .bits + length more < 8 → Put more start pen (record { at = pen .at; bits = pen .bits + length more; value = pen .value * 2 ^ length more + value more }) out out
+  put-within : pen .bits + length more < 8
+      → Put more start pen (record { at = pen .at; bits = pen .bits + length more; value = pen .value * 2 ^ length more + value more }) out out
   put-within few = record {
     holds = λ bs out0 h. holds-within h more few;
     fits = λ k f. record { room = omega (arith, f .room); inByte = few; holds = gathered f (length more) (value-lt more) };
@@ -175,8 +182,10 @@ module _ (start : ℕ) (pen : Pen) (out : List ℕ) (more : List Bool) where
 
 -- a number in k bits, at most a byte of them, as the code shifts it
 module _ {j : ℕ} {pen : Pen} (f : PenFits j pen) (v k : ℕ) (few : k ≤ 8) (small : v < 2 ^ k) where
-  pub few-within : pen .bits + k < 8 → (start : ℕ) (out : List ℕ) → Put (bitsOf k v) start pen (record { at = pen .at; bits = pen .bits + k; value = pen .value * 2 ^ k % 65536 + v }) out out
-  few-within l start out = rw (shifted f k (omega arith)) (rw (length-bits k v, value-bits k v small) at (put-within start pen out (bitsOf k v) (omega (arith, length-bits k v))))
+  pub few-within : pen .bits + k < 8 → (start : ℕ) (out : List ℕ)
+      → Put (bitsOf k v) start pen (record { at = pen .at; bits = pen .bits + k; value = pen .value * 2 ^ k % 65536 + v }) out out
+  few-within l start out =
+      rw (shifted f k (omega arith)) (rw (length-bits k v, value-bits k v small) at (put-within start pen out (bitsOf k v) (omega (arith, length-bits k v))))
 
   -- the bits that its byte wants, and those left
   module _ (many : 8 ≤ pen .bits + k) where
@@ -206,7 +215,9 @@ module _ {j : ℕ} {pen : Pen} (f : PenFits j pen) (v k : ℕ) (few : k ≤ 8) (
         let n = length-bits room hi in
         let m = length-bits left lo in
         let next : Pen = record { at = pen .at + 1; bits = 0; value = 0 } in
-        let whole : Put (bitsOf room hi) start pen next out out' = rw (e, shifted f room (omega arith)) (rw (n, value-bits room hi high-small) at (put-whole start pen out (bitsOf room hi) (omega arith) (omega arith))) in
+        let whole : Put (bitsOf room hi) start pen next out out' =
+        rw (e, shifted f room (omega arith))
+        (rw (n, value-bits room hi high-small) at (put-whole start pen out (bitsOf room hi) (omega arith) (omega arith))) in
         let rest = simp (m, value-bits left lo (mod-lt v (pow-pos left)), zero-mul, zero-add) at (put-within start next out' (bitsOf left lo) (omega arith)) in
         let b : bitsOf k v ≡ bitsOf room hi ++ bitsOf left lo = ap (λ (n : ℕ). bitsOf n v) (sym halves) ∙ bits-split room left v (rw halves small) in
         rw (weight, b) (put-both whole rest)
@@ -224,29 +235,27 @@ module _ (v k : ℕ) (byte : 8 ≤ k) (small : v < 2 ^ k) where
     number-fits f = let e : length (bitsOf (k - 8) (v / 2 ^ 8)) + 8 ≡ k = omega (arith, length-bits (k - 8) (v / 2 ^ 8)) in u .fits 8 (rw e f)
 
     pub put-halves : {r : Pen} {o'' : List ℕ} → Put (bitsOf 8 (v % 256)) start q r o' o'' → Put (bitsOf k v) start p r o o''
-    put-halves w = let b : bitsOf k v ≡ bitsOf (k - 8) (v / 2 ^ 8) ++ bitsOf 8 (v % 256) = rw upper at (bits-split (k - 8) 8 v (rw upper small)) in rw b (put-both u w)
+    put-halves w =
+        let b : bitsOf k v ≡ bitsOf (k - 8) (v / 2 ^ 8) ++ bitsOf 8 (v % 256) = rw upper at (bits-split (k - 8) 8 v (rw upper small)) in rw b (put-both u w)
 
--- what a step writes
-module _ {s : Output} where
-  pub put-nothing : s ≡ Nothing → (start : ℕ) (pen : Pen) (out : List ℕ) → Put (codes (symbolsFor s)) start pen pen out out
-  unfolding codes symbolsFor
-  put-nothing e start pen out = rw e (put-none start pen out)
+-- the code of a symbol
+module _ {s : Symbol} where
+  pub put-new : s ≡ New → {start : ℕ} {p r : Pen} {o o' : List ℕ} → Put (bitsOf 1 0) start p r o o' → Put (code (toldSymbol s)) start p r o o'
+  unfolding code bitsOf
+  put-new e u = rw e u
 
-  pub put-new : (x : Dart) → s ≡ New x → {start : ℕ} {p r : Pen} {o o' : List ℕ} → Put (bitsOf 1 0) start p r o o' → Put (codes (symbolsFor s)) start p r o o'
-  unfolding codes code symbolsFor bitsOf
-  put-new x e u = rw e u
-
-  pub put-border : s ≡ Border → {start : ℕ} {p r : Pen} {o o' : List ℕ} → Put (bitsOf 2 2) start p r o o' → Put (codes (symbolsFor s)) start p r o o'
-  unfolding codes code symbolsFor bitsOf
+  pub put-border : s ≡ Border → {start : ℕ} {p r : Pen} {o o' : List ℕ} → Put (bitsOf 2 2) start p r o o' → Put (code (toldSymbol s)) start p r o o'
+  unfolding code bitsOf
   put-border e u = rw e u
 
   module _ (w : WalkNo) (e : s ≡ Index w) where
     pub index-small : IndexFits s → w .0 < 4096
     index-small h = rw e at h
 
-    pub put-index : IndexFits s → {start : ℕ} {p r : Pen} {o o' : List ℕ} → Put (bitsOf 14 (3 * 4096 + w .0)) start p r o o' → Put (codes (symbolsFor s)) start p r o o'
-    unfolding codes code symbolsFor bitsOf
-    put-index h u = rw (e, append-nil) (rw (← bits-join 2 12 3 (w .0) (omega arith) (index-small h)) at u)
+    pub put-index : IndexFits s → {start : ℕ} {p r : Pen} {o o' : List ℕ} → Put (bitsOf 14 (3 * 4096 + w .0)) start p r o o'
+        → Put (code (toldSymbol s)) start p r o o'
+    unfolding code bitsOf
+    put-index h u = rw e (rw (← bits-join 2 12 3 (w .0) (omega arith) (index-small h)) at u)
 
 -- a pen at the start of a stream
 pub holds-start : (start : ℕ) (out : List ℕ) → Holds [] start out (record { at = 0; bits = 0; value = 0 }) out

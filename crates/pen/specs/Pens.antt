@@ -7,8 +7,8 @@ use lib.ListN.{length, set, drop}
 use lib.Dec.{ltb}
 use Rattle.rules.specs.Stream as stream
 use Rattle.rules.specs.Writing.{pageOf}
-use Rattle.walk.specs.declared.Output.{Output}
-use Rattle.walk.specs.declared.Output.the-variants.{Nothing, Border, New, Index}
+use Rattle.rules.specs.declared.Symbol.{Symbol}
+use Rattle.rules.specs.declared.Symbol.the-variants.{New, Border, Index}
 use Rattle.pen.specs.declared.Pen.{Pen}
 
 -- the output after byte `at` of the stream: it is stored if the page from start has a place for it
@@ -38,8 +38,7 @@ pub record Put (more : List Bool) (start : ℕ) (pen r : Pen) (out out' : List �
   pub fits : (k : ℕ) → PenFits (length more + k) pen → PenFits k r
 
 -- a walk number to write has at most twelve bits
-abbrev pub IndexFits : Output → Type 0
-IndexFits Nothing = Unit
+abbrev pub IndexFits : Symbol → Type 0
+IndexFits New = Unit
 IndexFits Border = Unit
-IndexFits (New x) = Unit
 IndexFits (Index e) = e .0 < 4096

@@ -1,11 +1,12 @@
-// Bits out: a pen gathers bits into bytes, most significant first, and stores only the bytes that fall into a page of the stream.
-use walk::Output;
+// Bits out: a pen gathers bits into bytes, most significant first, and stores only the bytes that fall into a page
+// of the stream.
+use rules::Symbol;
 ghost use mathlib.Core.Path.{_≡_};
 ghost use mathlib.Core.Bool.{Bool};
 ghost use mathlib.Core.List.{List};
 ghost use Prim.Native.Nat.{ℕ, _≤_, _<_, _^_};
-ghost use Rattle.rules.specs.Stream.{bitsOf, codes, filled};
-ghost use Rattle.walk.proofs.Laws.{symbolsFor};
+ghost use Rattle.rules.specs.Stream.{bitsOf, code, filled};
+ghost use Rattle.rules.specs.Symbols.{toldSymbol};
 ghost use Rattle.pen.specs.Pens.{stored, penned, PenFits, Holds, Put, IndexFits};
 
 // Where writing stands: the number of whole bytes so far, and the bits gathered for the next one.
@@ -65,23 +66,23 @@ pub fn put_number(pen: Pen, v: u16, k: u16, start: usize, out: &mut [u8]) -> Pen
     put_few(p, v % 256, 8, start, out)
 }
 
-// What a step writes: N is 0, B is 10, w is 11 and twelve bits.
-pub fn put_symbol(pen: Pen, s: Output, start: usize, out: &mut [u8]) -> Pen
+// A symbol's code: N is 0, B is 10, w is 11 and twelve bits.
+pub fn put_symbol(pen: Pen, s: Symbol, start: usize, out: &mut [u8]) -> Pen
     requires { ⌜ PenFits 14 pen × IndexFits s ⌝ }
-    ensures { λ r. ⌜ Put (codes (symbolsFor s)) start pen r (now (out .entry)) (now (out .exit)) ⌝ }
+    ensures { λ r. ⌜ Put (code (toldSymbol s)) start pen r (now (out .entry)) (now (out .exit)) ⌝ }
 {
     match s {
-        Output::Nothing => pen,
-        Output::New(_) => put_few(pen, 0, 1, start, out),
-        Output::Border => put_few(pen, 2, 2, start, out),
-        Output::Index(e) => put_number(pen, 3 * 4096 + e.0, 14, start, out),
+        Symbol::New => put_few(pen, 0, 1, start, out),
+        Symbol::Border => put_few(pen, 2, 2, start, out),
+        Symbol::Index(e) => put_number(pen, 3 * 4096 + e.0, 14, start, out),
     }
 }
 
 // Zero bits fill the last byte.
 pub fn fill(pen: Pen, start: usize, out: &mut [u8])
     requires { ⌜ PenFits 0 pen ⌝ }
-    ensures { λ r. ⌜ ((bs : List Bool) (out0 : List ℕ) → Holds bs start out0 pen (now (out .entry)) → now (out .exit) ≡ penned (filled bs) start out0) ⌝ }
+    ensures { λ r. ⌜ ((bs : List Bool) (out0 : List ℕ) → Holds bs start out0 pen (now (out .entry))
+        → now (out .exit) ≡ penned (filled bs) start out0) ⌝ }
 {
     if 0 < pen.bits {
         let left = 8 - pen.bits;

@@ -1,11 +1,11 @@
 -- The write call taken apart as the code takes it: the check's refusals, then 10, then the page. Rests on the rules' Check and Streams, and on Replays.
-use Prim.Native.Nat.{ℕ, _+_, _*_, _-_, _/_, _≤_, _<_, _^_, min}
+use Prim.Native.Nat.{ℕ, _+_, _*_, _-_, _≤_, _<_, _^_, min}
 use mathlib.Core.Path.{_≡_, refl, ap, sym, _∙_}
 use mathlib.Core.Logic.{_≢_}
 use mathlib.Core.Bool.{Bool}
 use mathlib.Core.List.{List, [], _++_}
 use native.Mathlib.Omega.{arith}
-use lib.ListN.{length, take, drop, length-take, length-drop, drop-of-length-le}
+use lib.ListN.{length, take, drop, length-append, length-take, length-drop, drop-of-length-le}
 use lib.Seq.{take-nil}
 use borrow.Author.Tests.{lt-ltb, le-ltb}
 use Rattle.rules.specs.declared.CheckAnswer.{CheckAnswer}
@@ -17,29 +17,56 @@ use Rattle.rules.specs.Stream.{bitsOf, codes, header, filled}
 use Rattle.rules.specs.Writing.{stream, pageOf, startVerdict, writeVerdict, pageAfter, writeAnswerOf, writePage, writeAnswer, writeOut}
 use Rattle.rules.proofs.Check.{refused-some, fine-passes}
 use Rattle.rules.proofs.Codes.{length-bits}
-use Rattle.rules.proofs.Names.{room}
-use Rattle.rules.proofs.Streams.{filled-length, stream-longest}
+use Rattle.rules.proofs.Streams.{filled-length, symbols-few, stream-longest}
 use Rattle.pen.specs.Pens.{penned, PenFits, Holds, Put}
-use Rattle.writer.specs.Replays.{NumberedFrom}
+use Rattle.pen.proofs.Laws.{put-both, holds-start}
+use Rattle.replay.specs.Replays.{NumberedFrom}
 
--- the page of a whole stream, as the pen leaves it
-pub emitted : (N n : ℕ) (t : List ℕ) (root from : ℕ) (p0 p1 p2 p3 : Pen) (o0 o1 o2 o3 o4 : List ℕ)
-    → Holds [] from o0 p0 o0 → Put (bitsOf 4 N) from p0 p1 o0 o1 → Put (bitsOf 12 (n - 1)) from p1 p2 o1 o2 → Put (codes (symbolsOf N n t root)) from p2 p3 o2 o3
-    → ((bs : List Bool) (out0 : List ℕ) → Holds bs from out0 p3 o3 → o4 ≡ penned (filled bs) from out0) → o4 ≡ penned (stream N n t root) from o0
-unfolding stream header
-emitted N n t root from p0 p1 p2 p3 o0 o1 o2 o3 o4 h a b c f =
-    f ((bitsOf 4 N ++ bitsOf 12 (n - 1)) ++ codes (symbolsOf N n t root)) o0 (c .holds (bitsOf 4 N ++ bitsOf 12 (n - 1)) o0 (b .holds (bitsOf 4 N) o0 (a .holds [] o0 h)))
+-- a pen that has put nothing, and room for the bits that come after bits
+abbrev pub blankPen : Pen
+blankPen = record { at = 0; bits = 0; value = 0 }
 
--- its length, as the pen tells it
-pub pen-length : {bs : List Bool} {start : ℕ} {out0 : List ℕ} {pen : Pen} {out : List ℕ} → Holds bs start out0 pen out → (0 < pen .bits → pen .at + 1 ≡ length (filled bs)) × (pen .bits ≡ 0 → pen .at ≡ length (filled bs))
+pub put-fits : {bs : List Bool} {from : ℕ} {p : Pen} {o o' : List ℕ} → Put bs from blankPen p o o' → (k : ℕ) → length bs + k < 2 ^ 64 → PenFits k p
+put-fits u k h = u .fits k (record { room = omega arith; inByte = omega arith; holds = omega arith })
+
+-- the header, and the whole stream before its fill
+pub put-header : (N n : ℕ) {from : ℕ} {p q r : Pen} {o o' o'' : List ℕ} → Put (bitsOf 4 N) from p q o o' → Put (bitsOf 12 (n - 1)) from q r o' o''
+    → Put (header N n) from p r o o''
+unfolding header
+put-header N n a b = put-both a b
+
+pub header-length : (N n : ℕ) → length (header N n) ≡ 16
+unfolding header
+header-length N n = omega (arith, length-append (bitsOf 4 N) (bitsOf 12 (n - 1)), length-bits 4 N, length-bits 12 (n - 1))
+
+unfoldable pub streamBits : ℕ → ℕ → List ℕ → ℕ → List Bool
+streamBits N n t root = header N n ++ codes (symbolsOf N n t root)
+
+pub put-stream : (N n : ℕ) (t : List ℕ) (root : ℕ) {from : ℕ} {p q r : Pen} {o o' o'' : List ℕ} → Put (header N n) from p q o o'
+    → Put (codes (symbolsOf N n t root)) from q r o' o'' → Put (streamBits N n t root) from p r o o''
+unfolding streamBits
+put-stream N n t root a b = put-both a b
+
+pub stream-bits : (N n : ℕ) (t : List ℕ) (root : ℕ) → N ≤ 6 → n ≤ 4096 → root < n → Valid N n t → length (streamBits N n t root) ≤ 401424
+unfolding streamBits
+stream-bits N n t root h6 hn hr A =
+    omega (arith, length-append (header N n) (codes (symbolsOf N n t root)), header-length N n, symbols-few N n t root h6 hn hr A)
+
+-- the page of a whole stream, as the pen leaves it, and its length, as the pen tells it
+pub pen-length : {bs : List Bool} {start : ℕ} {out0 : List ℕ} {pen : Pen} {out : List ℕ} → Holds bs start out0 pen out
+    → (0 < pen .bits → pen .at + 1 ≡ length (filled bs)) × (pen .bits ≡ 0 → pen .at ≡ length (filled bs))
 pen-length {bs} H = let q = filled-length bs in let a = H .at in let b = H .bits in (λ h. omega arith, λ h. omega arith)
 
-pub emitted-length : (N n : ℕ) (t : List ℕ) (root from r : ℕ) (p0 p1 p2 p3 : Pen) (o0 o1 o2 o3 : List ℕ)
-    → Holds [] from o0 p0 o0 → Put (bitsOf 4 N) from p0 p1 o0 o1 → Put (bitsOf 12 (n - 1)) from p1 p2 o1 o2 → Put (codes (symbolsOf N n t root)) from p2 p3 o2 o3
-    → ((bs : List Bool) (start : ℕ) (out0 out : List ℕ) → Holds bs start out0 p3 out → r ≡ length (filled bs)) → r ≡ length (stream N n t root)
-unfolding stream header
-emitted-length N n t root from r p0 p1 p2 p3 o0 o1 o2 o3 h a b c f =
-    f ((bitsOf 4 N ++ bitsOf 12 (n - 1)) ++ codes (symbolsOf N n t root)) from o0 o3 (c .holds (bitsOf 4 N ++ bitsOf 12 (n - 1)) o0 (b .holds (bitsOf 4 N) o0 (a .holds [] o0 h)))
+module _ (N n : ℕ) (t : List ℕ) (root : ℕ) {from : ℕ} {p : Pen} {o o' : List ℕ} (u : Put (streamBits N n t root) from blankPen p o o') where
+  pub emitted : (out : List ℕ) → ((bs : List Bool) (out0 : List ℕ) → Holds bs from out0 p o' → out ≡ penned (filled bs) from out0)
+      → out ≡ penned (stream N n t root) from o
+  unfolding stream streamBits
+  emitted out f = f (header N n ++ codes (symbolsOf N n t root)) o (u .holds [] o (holds-start from o))
+
+  pub emitted-length : (r : ℕ) → ((bs : List Bool) (start : ℕ) (out0 out : List ℕ) → Holds bs start out0 p out → r ≡ length (filled bs))
+      → r ≡ length (stream N n t root)
+  unfolding stream streamBits
+  emitted-length r f = f (header N n ++ codes (symbolsOf N n t root)) from o o' (u .holds [] o (holds-start from o))
 
 module _ (N n root : ℕ) (t work : List ℕ) (c : CheckAnswer) (ec : c ≡ checkAnswer N n root t work) where
   refused-verdict : c .number ≢ 0 → verdict N n root t (length work) ≡ Verdict.refused (c .number) (c .place)
@@ -60,7 +87,8 @@ module _ (N n root : ℕ) (t work : List ℕ) (c : CheckAnswer) (ec : c ≡ chec
 
   -- the check's refusals
   pub write-refused : (from : ℕ) (out : List ℕ) → c .number ≢ 0
-      → (record { number = c .number; place = c .place; written = 0; length = 0 } ≡ writeAnswer N n root from t work out) × (out ≡ writeOut N n root from t work out)
+      → (record { number = c .number; place = c .place; written = 0; length = 0 } ≡ writeAnswer N n root from t work out)
+      × (out ≡ writeOut N n root from t work out)
   unfolding writeAnswer writeOut writePage writeVerdict startVerdict pageAfter writeAnswerOf
   write-refused from out h = rw (refused-verdict h) ((refl, refl))
 
@@ -83,7 +111,8 @@ module _ (N n root : ℕ) (t work : List ℕ) (c : CheckAnswer) (ec : c ≡ chec
         rw (fine-verdict h, ← e, lt-ltb l from q) ((refl, eo ∙ rw (z, take-nil {A = ℕ} (length out))))
 
     -- the page
-    pub write-page : (from l : ℕ) (out out' : List ℕ) (k : ℕ) → l ≡ length (stream N n t root) → from ≤ l → out' ≡ penned (stream N n t root) from out → k ≡ min (length out) (l - from)
+    pub write-page : (from l : ℕ) (out out' : List ℕ) (k : ℕ) → l ≡ length (stream N n t root) → from ≤ l → out' ≡ penned (stream N n t root) from out
+        → k ≡ min (length out) (l - from)
         → (record { number = 0; place = 0; written = k; length = l } ≡ writeAnswer N n root from t work out) × (out' ≡ writeOut N n root from t work out)
     unfolding writeAnswer writeOut writePage writeVerdict startVerdict pageAfter writeAnswerOf refuseIf penned pageOf
     write-page from l out out' k e q eo ek =
@@ -94,16 +123,3 @@ module _ (N n root : ℕ) (t work : List ℕ) (c : CheckAnswer) (ec : c ≡ chec
     pub write-numbered : (u : List ℕ) → u ≡ checkWork N n root t work → NumberedFrom N n t root u
     unfolding checkWork workAfter
     write-numbered u e = record { connected = write-limits .2; tail = drop (2 * n) work; room = e ∙ rw (fine-verdict h) }
-
--- room for the bits that come: from the first pen, after the header, after the symbols
-pub fits-first : (k : ℕ) → k < 2 ^ 64 → PenFits k (record { at = 0; bits = 0; value = 0 })
-fits-first k h = record { room = omega arith; inByte = omega arith; holds = omega arith }
-
-pub fits-second : (N from : ℕ) {p : Pen} {o o' : List ℕ} → Put (bitsOf 4 N) from (record { at = 0; bits = 0; value = 0 }) p o o' → (k : ℕ) → k < 2 ^ 60 → PenFits k p
-fits-second N from x k h = x .fits k (fits-first (length (bitsOf 4 N) + k) (omega (arith, length-bits 4 N)))
-
-pub fits-third : (N d from : ℕ) {p q : Pen} {o o' o'' : List ℕ} → Put (bitsOf 4 N) from (record { at = 0; bits = 0; value = 0 }) p o o' → Put (bitsOf 12 d) from p q o' o'' → (k : ℕ) → k < 2 ^ 50 → PenFits k q
-fits-third N d from x y k h = y .fits k (fits-second N from x (length (bitsOf 12 d) + k) (omega (arith, length-bits 12 d)))
-
-pub fits-last : (ss : List Bool) (from k : ℕ) → k ≤ 14 → {q r : Pen} {o o' : List ℕ} → length ss ≤ 401408 → PenFits 401422 q → Put ss from q r o o' → PenFits k r
-fits-last ss from k h l f x = x .fits k (record { room = omega (arith, f .room); inByte = f .inByte; holds = f .holds })

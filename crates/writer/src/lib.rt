@@ -1,48 +1,30 @@
 // The writer: the check, which numbers the darts, then a replay of the walk that puts the symbols' bits and so comes
 // to the stream's length.
 use pen::Pen;
+use replay::Yield;
 use rules::WriteAnswer;
 ghost use mathlib.Core.Path.{_≡_};
-ghost use Prim.Native.Nat.{ℕ, _+_, _*_, _≤_, _<_};
-ghost use lib.ListN.{length, getD};
+ghost use Prim.Native.Nat.{ℕ, _*_, _≤_};
+ghost use lib.ListN.{length};
 ghost use Rattle.rules.specs.Map.{Limits, Valid};
 ghost use Rattle.rules.specs.Walk.{symbolsOf};
 ghost use Rattle.rules.specs.Stream.{codes, filled};
 ghost use Rattle.rules.specs.Writing.{writeAnswer, writeOut, writeWork, stream};
 ghost use mathlib.Core.Bool.{Bool};
 ghost use mathlib.Core.List.{List};
-ghost use Rattle.walk.specs.Numbers.{writesIn};
+ghost use Rattle.replay.specs.Replays.{told, NumberedFrom};
 ghost use Rattle.pen.specs.Pens.{PenFits, Holds, Put, penned};
-ghost use Rattle.writer.specs.Replays.{Replays, Replayed, NumberedFrom};
+ghost use Rattle.writer.specs.Yields.{YieldFits};
 
-// Where a replay stands beside its positions: how many darts are numbered, and the pen.
-pub struct Replay {
-    pub count: u16,
-    pub pen: Pen,
-}
-
-// One step of the replay at the head of Lj: it leaves Lj, and what the step writes is put. The numbering is finished,
-// so a dart is new exactly when its number is not below the count.
-pub fn replay_step(
-    tables: &[u16],
-    work: &[u16],
-    positions: &mut [u16],
-    dim: usize,
-    darts: usize,
-    j: usize,
-    old: Replay,
-    start: usize,
-    out: &mut [u8],
-) -> Replay
-    requires { ⌜ Limits dim darts (now tables) × Valid dim darts (now tables) × (j ≤ dim) × (length (now positions) ≡ 7) × Replays dim darts (now tables) (now work) (old .count) j (getD (now positions) j 0) (old .pen) ⌝ }
-    ensures { λ q. ⌜ Replayed (writesIn dim darts (now (tables .entry)) (now (work .entry)) (old .count) j (getD (now (positions .entry)) j 0)) j start old q (now (positions .entry)) (now (positions .exit)) (now (out .entry)) (now (out .exit)) ⌝ }
+// What a step of the replay yields, put: a symbol's code, or nothing.
+pub fn put_yield(pen: Pen, s: Yield, start: usize, out: &mut [u8]) -> Pen
+    requires { ⌜ PenFits 14 pen × YieldFits s ⌝ }
+    ensures { λ r. ⌜ Put (codes (told s)) start pen r (now (out .entry)) (now (out .exit)) ⌝ }
 {
-    let position = positions[j];
-    positions[j] = position + 1;
-    let s = walk::writes(tables, work, dim, darts, old.count, j, position);
-    let count = walk::count_after(s, old.count);
-    let pen = pen::put_symbol(old.pen, s, start, out);
-    Replay { count, pen }
+    match s {
+        Yield::Nothing => pen,
+        Yield::One(x) => pen::put_symbol(pen, x, start, out),
+    }
 }
 
 // The symbols of the whole walk. Positions say how many darts have left each queue. The queues below Lj are empty, so
@@ -56,33 +38,39 @@ pub fn put_symbols(
     start: usize,
     out: &mut [u8],
 ) -> Pen
-    requires { ⌜ Limits dim darts (now tables) × Valid dim darts (now tables) × (2 * darts ≤ length (now work)) × PenFits 401422 pen × ((root : ℕ) × NumberedFrom dim darts (now tables) root (now work)) ⌝ }
-    ensures { λ q. ⌜ ((root : ℕ) → NumberedFrom dim darts (now (tables .entry)) root (now (work .entry)) → Put (codes (symbolsOf dim darts (now (tables .entry)) root)) start pen q (now (out .entry)) (now (out .exit))) ⌝ }
+    requires { ⌜ Limits dim darts (now tables) × Valid dim darts (now tables) × (2 * darts ≤ length (now work))
+        × PenFits 401422 pen × ((root : ℕ) × NumberedFrom dim darts (now tables) root (now work)) ⌝ }
+    ensures { λ q. ⌜ ((root : ℕ) → NumberedFrom dim darts (now (tables .entry)) root (now (work .entry))
+        → Put (codes (symbolsOf dim darts (now (tables .entry)) root)) start pen q (now (out .entry))
+        (now (out .exit))) ⌝ }
 {
     let mut positions = [0u16; 7];
-    let mut r = Replay { count: 1, pen };
+    let mut last = pen;
+    let mut count = 1;
     let mut j = 0;
     while j <= dim {
-        let count = r.count;
         if count <= positions[j] {
             j += 1;
         } else {
-            r = replay_step(tables, work, &mut positions, dim, darts, j, r, start, out);
-            let next = r.count;
+            let s = replay::step(tables, work, &mut positions, dim, darts, j, count);
+            let written = s.written;
+            last = put_yield(last, written, start, out);
+            let next = s.count;
             // a new dart enters L0, so the lowest queue is looked for from there again
             if next != count {
                 j = 0;
             }
+            count = next;
         }
     }
-    let last = r.pen;
     last
 }
 
 // How many bytes a pen's bits come to once the last is filled.
 pub fn bytes_of(pen: Pen) -> usize
     requires { ⌜ PenFits 8 pen ⌝ }
-    ensures { λ r. ⌜ ((bs : List Bool) (start : ℕ) (out0 out : List ℕ) → Holds bs start out0 pen out → r ≡ length (filled bs)) ⌝ }
+    ensures { λ r. ⌜ ((bs : List Bool) (start : ℕ) (out0 out : List ℕ) → Holds bs start out0 pen out
+        → r ≡ length (filled bs)) ⌝ }
 {
     if 0 < pen.bits {
         return pen.at + 1;
@@ -99,8 +87,11 @@ pub fn emit(
     start: usize,
     out: &mut [u8],
 ) -> usize
-    requires { ⌜ Limits dim darts (now tables) × Valid dim darts (now tables) × (2 * darts ≤ length (now work)) × ((root : ℕ) × NumberedFrom dim darts (now tables) root (now work)) ⌝ }
-    ensures { λ r. ⌜ ((root : ℕ) → NumberedFrom dim darts (now (tables .entry)) root (now (work .entry)) → (r ≡ length (stream dim darts (now (tables .entry)) root)) × (now (out .exit) ≡ penned (stream dim darts (now (tables .entry)) root) start (now (out .entry)))) ⌝ }
+    requires { ⌜ Limits dim darts (now tables) × Valid dim darts (now tables) × (2 * darts ≤ length (now work))
+        × ((root : ℕ) × NumberedFrom dim darts (now tables) root (now work)) ⌝ }
+    ensures { λ r. ⌜ ((root : ℕ) → NumberedFrom dim darts (now (tables .entry)) root (now (work .entry))
+        → (r ≡ length (stream dim darts (now (tables .entry)) root))
+        × (now (out .exit) ≡ penned (stream dim darts (now (tables .entry)) root) start (now (out .entry)))) ⌝ }
 {
     let none = Pen {
         at: 0,
@@ -134,9 +125,13 @@ pub fn write(
     work: &mut [u16],
     out: &mut [u8],
 ) -> WriteAnswer
-    ensures { λ r. ⌜ (r ≡ writeAnswer dim darts root start (now (tables .entry)) (now (work .entry)) (now (out .entry))) × (now (work .exit) ≡ writeWork dim darts root (now (tables .entry)) (now (work .entry))) × (now (out .exit) ≡ writeOut dim darts root start (now (tables .entry)) (now (work .entry)) (now (out .entry))) ⌝ }
+    ensures { λ r. ⌜
+        (r ≡ writeAnswer dim darts root start (now (tables .entry)) (now (work .entry)) (now (out .entry)))
+        × (now (work .exit) ≡ writeWork dim darts root (now (tables .entry)) (now (work .entry)))
+        × (now (out .exit)
+        ≡ writeOut dim darts root start (now (tables .entry)) (now (work .entry)) (now (out .entry))) ⌝ }
 {
-    let c = walk::check(dim, darts, root, tables, work);
+    let c = checker::check(dim, darts, root, tables, work);
     if c.number != 0 {
         return WriteAnswer {
             number: c.number,

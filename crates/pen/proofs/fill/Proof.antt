@@ -25,7 +25,8 @@ same-length : tie.Need-same-length
 same-length c = search needs
 
 returns : tie.Need-returns
-returns c bs out0 h = fill-more h (c .before .before .before .before .before .before .before .before .before .pre) (omega arith) _ (c .before .before .store .ensures)
+returns c bs out0 h =
+    fill-more h (c .before .before .before .before .before .before .before .before .before .pre) (omega arith) _ (c .before .before .store .ensures)
 
 returns-2 : tie.Need-returns-2
 returns-2 c bs out0 h = fill-none h (omega arith)

@@ -27,10 +27,12 @@ shr-store : tie.Need-shr-store
 shr-store c = search needs
 
 add-store : tie.Need-add-store
-add-store c = let s = c .before .before .before .before .before in omega (arith, whole-small (s .pre .0) _ _ (s .pre .1) (s .pre .2) (c .before .before .if1 .left))
+add-store c =
+    let s = c .before .before .before .before .before in omega (arith, whole-small (s .pre .0) _ _ (s .pre .1) (s .pre .2) (c .before .before .if1 .left))
 
 cast-store : tie.Need-cast-store
-cast-store c = let s = c .before .before .before .before .before in omega (arith, whole-small (s .pre .0) _ _ (s .pre .1) (s .pre .2) (c .before .before .if1 .left))
+cast-store c =
+    let s = c .before .before .before .before .before in omega (arith, whole-small (s .pre .0) _ _ (s .pre .1) (s .pre .2) (c .before .before .if1 .left))
 
 store-requires : tie.Need-store-requires
 store-requires c κs = search needs

@@ -1,5 +1,4 @@
 -- `pen::store` meets its contract: before the page, within it or past it. Assumes nothing.
-use native.Mathlib.Omega.{arith}
 use borrow.Author.Needs.{needs}
 use Rattle.pen.proofs.Laws.{stored-before, stored-within, stored-past}
 use Rattle.pen.proofs.store.Statement.{statement}

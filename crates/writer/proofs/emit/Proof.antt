@@ -1,11 +1,48 @@
 -- `writer::emit` meets its contract: header, symbols and fill are put one after the other. Assumes nothing.
+use Prim.Native.Nat.{ℕ, _≤_}
 use native.Mathlib.Omega.{arith}
 use borrow.Author.Needs.{needs}
-use Rattle.rules.proofs.Streams.{symbols-few}
-use Rattle.pen.proofs.Laws.{holds-start}
-use Rattle.writer.proofs.Writes.{emitted, emitted-length, fits-second, fits-third, fits-last}
+use Rattle.rules.specs.Stream.{header}
+use Rattle.rules.proofs.Codes.{length-bits}
+use Rattle.replay.specs.Replays.{NumberedFrom}
+use Rattle.pen.specs.Pens.{PenFits, Put}
+use Rattle.writer.proofs.Writes.{blankPen, put-fits, put-header, header-length, streamBits, put-stream, stream-bits, emitted, emitted-length}
 use Rattle.writer.proofs.emit.Statement.{statement}
 use Rattle.writer.proofs.emit.Tie as tie
+
+-- the places that the needs look back to: the start, the header's two numbers, the symbols
+abbrev start : tie.After-put-few → tie.Start
+start c = c .before .before .before .before .before
+
+abbrev few : tie.After-put-number → tie.After-put-few
+few c = c .before .before .before .before
+
+abbrev head : tie.After-put-symbols → tie.After-put-number
+head c = c .before .before .before .before
+
+abbrev begun : tie.After-put-symbols → tie.Start
+begun c = start (few (head c))
+
+abbrev symbols : tie.After-fill → tie.After-put-symbols
+symbols c = c .before .before .before .before
+
+-- the header was put, and then the symbols
+headed : (c : tie.After-put-number) → let a = start (few c) .args in
+    Put (header (a .dim) (a .darts)) (a .start) blankPen (c .put-number .result) (a .out .now) (c .put-number .last .1 .1 .1 .1 .0)
+headed c = put-header _ _ (few c .put-few .ensures) (c .put-number .ensures)
+
+streamed : (c : tie.After-put-symbols) → let a = begun c .args in (root : ℕ) → NumberedFrom (a .dim) (a .darts) (a .tables .now) root (a .work .now)
+    → Put (streamBits (a .dim) (a .darts) (a .tables .now) root) (a .start) blankPen (c .put-symbols .result) (a .out .now)
+    (c .put-symbols .last .1 .1 .1 .1 .1 .1 .0)
+streamed c root q = put-stream _ _ _ root (headed (head c)) (c .put-symbols .ensures root q)
+
+-- and bits more fit
+fits : (c : tie.After-put-symbols) → (k : ℕ) → k ≤ 8 → PenFits k (c .put-symbols .result)
+fits c k h =
+    let s = begun c in
+    let (root, q) = s .pre .3 in
+    let l = stream-bits _ _ _ root (s .pre .0 .dims .1) (s .pre .0 .darts .1) (q .connected .rooted) (s .pre .1) in
+    put-fits (streamed c root q) k (omega arith)
 
 cast-put-few : tie.Need-cast-put-few
 cast-put-few c = search needs
@@ -20,36 +57,33 @@ cast-put-number : tie.Need-cast-put-number
 cast-put-number c = search needs
 
 put-number-requires : tie.Need-put-number-requires
-put-number-requires c κs = (fits-second _ _ (c .before .before .before .put-few .ensures) 12 (omega arith), omega arith, omega arith, omega arith)
+put-number-requires c κs =
+    let k = c .before .before .before in
+    (put-fits (k .put-few .ensures) 12 (omega (arith, length-bits 4 (start k .args .dim))), omega arith, omega arith, omega arith)
 
 put-symbols-requires : tie.Need-put-symbols-requires
 put-symbols-requires c κs =
-    let s = c .before .before .before .before .before .before .before .before .before .before .before .before in
-    (s .pre .0, s .pre .1, s .pre .2, fits-third _ _ _ (c .before .before .before .before .before .before .before .put-few .ensures) (c .before .before .before .put-number .ensures) 401422 (omega arith), s .pre .3)
+    let k = c .before .before .before in
+    let s = start (few k) in
+    (s .pre .0, s .pre .1, s .pre .2, put-fits (headed k) 401422 (omega (arith, header-length (s .args .dim) (s .args .darts))), s .pre .3)
 
 fill-requires : tie.Need-fill-requires
-fill-requires c κs =
-    let s = c .before .before .before .before .before .before .before .before .before .before .before .before .before .before .before .before in
-    let a = s .args in
-    let q = s .pre .3 .1 in
-    fits-last _ _ 0 (omega arith) (symbols-few (a .dim) (a .darts) (a .tables .now) (s .pre .3 .0) (omega (arith, s .pre .0)) (omega (arith, s .pre .0)) (q .connected .rooted) (s .pre .1)) (fits-third _ _ _ (c .before .before .before .before .before .before .before .before .before .before .before .put-few .ensures) (c .before .before .before .before .before .before .before .put-number .ensures) 401422 (omega arith)) (c .before .before .before .put-symbols .ensures (s .pre .3 .0) q)
+fill-requires c κs = fits (c .before .before .before) 0 (omega arith)
 
 bytes-of-requires : tie.Need-bytes-of-requires
-bytes-of-requires c κs =
-    let s = c .before .before .before .before .before .before .before .before .before .before .before .before .before .before .before .before .before .before .before in
-    let a = s .args in
-    let q = s .pre .3 .1 in
-    fits-last _ _ 8 (omega arith) (symbols-few (a .dim) (a .darts) (a .tables .now) (s .pre .3 .0) (omega (arith, s .pre .0)) (omega (arith, s .pre .0)) (q .connected .rooted) (s .pre .1)) (fits-third _ _ _ (c .before .before .before .before .before .before .before .before .before .before .before .before .before .before .put-few .ensures) (c .before .before .before .before .before .before .before .before .before .before .put-number .ensures) 401422 (omega arith)) (c .before .before .before .before .before .before .put-symbols .ensures (s .pre .3 .0) q)
+bytes-of-requires c κs = fits (symbols (c .before .before)) 8 (omega arith)
 
 same-length : tie.Need-same-length
 same-length c = search needs
 
 returns : tie.Need-returns
-returns c = λ root q. (
-  emitted-length _ _ _ root _ _ _ _ _ _ _ _ _ _ (holds-start _ _) (c .before .before .before .before .before .before .before .before .before .before .before .before .before .before .before .put-few .ensures) (c .before .before .before .before .before .before .before .before .before .before .before .put-number .ensures) (c .before .before .before .before .before .before .before .put-symbols .ensures root q) (c .bytes-of .ensures),
-  emitted _ _ _ root _ _ _ _ _ _ _ _ _ _ (holds-start _ _) (c .before .before .before .before .before .before .before .before .before .before .before .before .before .before .before .put-few .ensures) (c .before .before .before .before .before .before .before .before .before .before .before .put-number .ensures) (c .before .before .before .before .before .before .before .put-symbols .ensures root q) (c .before .before .before .fill .ensures),
-)
+returns c = λ root q.
+    let f = c .before .before .before in
+    let u = streamed (symbols f) root q in
+    (emitted-length _ _ _ root u _ (c .bytes-of .ensures), emitted _ _ _ root u _ (f .fill .ensures))
 
 pub emit-spec : {M : Type 1} → statement M
 emit-spec =
-    tie.close (tie.spec cast-put-few put-few-requires sub-put-number cast-put-number put-number-requires put-symbols-requires fill-requires bytes-of-requires same-length returns)
+    tie.close
+    (tie.spec cast-put-few put-few-requires sub-put-number cast-put-number put-number-requires put-symbols-requires fill-requires bytes-of-requires
+    same-length returns)

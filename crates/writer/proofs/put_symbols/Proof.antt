@@ -1,7 +1,7 @@
--- `writer::put_symbols` meets its contract: the replay goes beside the numbering, the queues below j are empty, and what was put and what is left to put are all the
--- symbols. A turn makes a step or goes on to the next rank. Assumes nothing.
+-- `writer::put_symbols` meets its contract: the replay goes along the walk, the queues below j are empty, and what was put are the codes of the symbols so
+-- far. A turn makes a step or goes on to the next rank. Assumes nothing.
 use Prim.Native.Nat.{ℕ, _+_, _*_, _-_, _≤_, _<_}
-use mathlib.Core.Path.{_≡_, refl}
+use mathlib.Core.Path.{_≡_, refl, ap}
 use native.Mathlib.Omega.{arith}
 use lib.ListN.{length}
 use borrow.Author.Needs.{needs}
@@ -9,25 +9,40 @@ use Rattle.rules.specs.Lists.{sum}
 use Rattle.rules.specs.Walk.{enough}
 use Rattle.rules.specs.Inner.{Emptied, Lowest}
 use Rattle.rules.proofs.Lowest.{emptied-none, emptied-next}
-use Rattle.walk.proofs.Going.{emptied-after}
-use Rattle.writer.specs.Replays.{NumberedFrom}
-use Rattle.writer.proofs.Replays.{Replaying, replay-starts, replay-asks, replay-less, replay-goes, replay-ends}
+use Rattle.walk.proofs.Walking.{Rooted, walking-less, emptied-after}
+use Rattle.replay.specs.declared.Replayed.{Replayed}
+use Rattle.replay.specs.Replays.{NumberedFrom}
+use Rattle.replay.proofs.Finished.{rooted-by}
+use Rattle.replay.proofs.Replays.{replay-served}
+use Rattle.writer.proofs.Replays.{Writing, yield-fits, writing-starts, writing-fits, writing-ends, writing-goes}
 use Rattle.writer.proofs.put_symbols.Statement.{statement}
 use Rattle.writer.proofs.put_symbols.Tie as tie
 
 abbrev Inv-loop : tie.InvT-loop
-Inv-loop tables work dim darts start out₀ positions₀ r₀ j₀ out positions r j =
-    (length out ≡ length out₀) × (length positions ≡ 7) × (j ≤ dim + 1) × Emptied (r .count) positions j
-    × ((root : ℕ) → NumberedFrom dim darts tables root work → Replaying dim darts tables root work start (r .count) positions (r₀ .pen) (r .pen) out₀ out)
+Inv-loop tables work dim darts start out₀ positions₀ last₀ count₀ j₀ out positions last count j =
+    (length out ≡ length out₀) × (length positions ≡ 7) × (j ≤ dim + 1) × Emptied count positions j
+    × ((root : ℕ) → NumberedFrom dim darts tables root work → Writing dim darts tables root count positions start last₀ last out₀ out)
 
 abbrev μ-loop : tie.MeasureT-loop
-μ-loop tables work dim darts start out₀ positions₀ r₀ j₀ out positions r j = (enough dim darts - sum positions) * 8 + (7 - j)
+μ-loop tables work dim darts start out₀ positions₀ last₀ count₀ j₀ out positions last count j = (enough dim darts - sum positions) * 8 + (7 - j)
+
+-- the places that the needs look back to: the start, and the turn that a step belongs to
+abbrev start : tie.At-loop Inv-loop μ-loop → tie.Start Inv-loop μ-loop
+start c = c .before .before .before .before
+
+abbrev turn : tie.After-positions Inv-loop μ-loop → tie.At-loop Inv-loop μ-loop
+turn c = c .before .before .before
+
+abbrev step-of : tie.After-put-yield Inv-loop μ-loop → tie.After-step Inv-loop μ-loop
+step-of c = c .before .before .before
+
+-- a map and a root to walk from
+rooted : (s : tie.Start Inv-loop μ-loop) → let a = s .args in (root : ℕ) → NumberedFrom (a .dim) (a .darts) (a .tables .now) root (a .work .now)
+    → Rooted (a .dim) (a .darts) (a .tables .now) root
+rooted s root q = rooted-by (s .pre .0) (s .pre .1) q
 
 loop-holds : tie.Need-loop-holds Inv-loop μ-loop
-loop-holds c =
-    let s = c .before .before .before in
-    let a = s .args in
-    (refl, refl, omega arith, emptied-none _ _, λ root q. replay-starts (a .dim) (a .darts) (a .tables .now) _ (omega arith) (omega arith) (q .connected .rooted) (s .pre .1) (a .work .now) q (a .start) _ _)
+loop-holds c = (refl, refl, omega arith, emptied-none _ _, λ root q. writing-starts (rooted (c .before .before .before) root q) q)
 
 mul-if1 : tie.Need-mul-if1 Inv-loop μ-loop
 mul-if1 c = omega arith
@@ -44,72 +59,82 @@ loop-less c = omega arith
 loop-again : tie.Need-loop-again Inv-loop μ-loop
 loop-again c =
     let l = c .before .before .loop in
-    (l .inv .0, l .inv .1, omega arith, emptied-next (l .r .count) (l .positions) (l .j) (l .inv .3) (c .if1 .taken), l .inv .4)
+    (l .inv .0, l .inv .1, omega arith, emptied-next (l .count) (l .positions) (l .j) (l .inv .3) (c .if1 .taken), l .inv .4)
 
-slice-aggregate-replay-step : tie.Need-slice-aggregate-replay-step Inv-loop μ-loop
-slice-aggregate-replay-step c = search needs
+slice-aggregate-step : tie.Need-slice-aggregate-step Inv-loop μ-loop
+slice-aggregate-step c = search needs
 
 -- a step is made where Lj is the lowest queue that isn't empty
-served : (c : tie.After-replay-step-arg Inv-loop μ-loop) → let l = c .before .before .before .before .loop in Lowest (c .before .before .before .before .before .before .before .before .args .dim) (l .r .count) (l .positions) (l .j)
-served c = record { ranked = omega arith; lower = c .before .before .before .before .loop .inv .3; some = c .before .before .if1 .left }
+served : (c : tie.After-positions Inv-loop μ-loop) → let l = turn c .loop in Lowest (start (turn c) .args .dim) (l .count) (l .positions) (l .j)
+served c = record { ranked = omega arith; lower = turn c .loop .inv .3; some = c .before .if1 .left }
 
-replay-step-requires : tie.Need-replay-step-requires Inv-loop μ-loop
-replay-step-requires c κs =
-    let s = c .before .before .before .before .before .before .before .before in
-    let a = s .args in
+-- where the writer stands at a turn, from the root that is there
+stands : (c : tie.At-loop Inv-loop μ-loop) → let a = start c .args in let l = c .loop in
+    Writing (a .dim) (a .darts) (a .tables .now) (start c .pre .4 .0) (l .count) (l .positions) (a .start) (a .pen) (l .last) (a .out .now) (l .out)
+stands c = c .loop .inv .4 (start c .pre .4 .0) (start c .pre .4 .1)
+
+step-requires : tie.Need-step-requires Inv-loop μ-loop
+step-requires c κs =
+    let t = turn c in
+    let s = start t in
     let q = s .pre .4 .1 in
-    let l = c .before .before .before .before .loop in
-    let R = l .inv .4 (s .pre .4 .0) q in
-    (s .pre .0, s .pre .1, omega arith, l .inv .1, replay-asks (a .dim) (a .darts) (a .tables .now) _ (omega arith) (omega arith) (q .connected .rooted) (s .pre .1) (a .work .now) q (a .start) _ _ R (l .j) (served c) (s .pre .2) (s .pre .3))
+    (s .pre .0, s .pre .1, omega arith, t .loop .inv .1, replay-served (rooted s _ q) q (stands t .replaying) (t .loop .j) (served c) (s .pre .2))
 
--- it brings the replay nearer to its end
-nearer : (c : tie.After-replay-step Inv-loop μ-loop) → let a = c .before .before .before .before .before .before .before .before .before .args in
-    enough (a .dim) (a .darts) - sum (c .replay-step .last .1 .1 .0) < enough (a .dim) (a .darts) - sum (c .before .before .before .before .before .loop .positions)
+put-yield-requires : tie.Need-put-yield-requires Inv-loop μ-loop
+put-yield-requires c κs =
+    let k = c .before .before in
+    let t = turn (k .before) in
+    let s = start t in
+    let q = s .pre .4 .1 in
+    let v = replay-served (rooted s _ q) q (stands t .replaying) (t .loop .j) (served (k .before)) (s .pre .2) in
+    (writing-fits (rooted s _ q) q (stands t) (s .pre .3), yield-fits _ _ _ _ _ _ _ (v .count) _ (ap (λ (r : Replayed). r .written) (k .step .ensures .0)))
+
+-- a step brings the writer nearer to its end
+nearer : (c : tie.After-step Inv-loop μ-loop) → let t = turn (c .before) in let a = start t .args in
+    enough (a .dim) (a .darts) - sum (c .step .last .1 .1 .0) < enough (a .dim) (a .darts) - sum (t .loop .positions)
 nearer c =
-    let s = c .before .before .before .before .before .before .before .before .before in
-    let a = s .args in
-    let q = s .pre .4 .1 in
-    let l = c .before .before .before .before .before .loop in
-    let R = l .inv .4 (s .pre .4 .0) q in
-    rw (c .replay-step .ensures .left) (replay-less (a .dim) (a .darts) (a .tables .now) _ (omega arith) (omega arith) (q .connected .rooted) (s .pre .1) (a .work .now) q (a .start) _ _ R (l .j) (served (c .before)))
+    let t = turn (c .before) in
+    let q = start t .pre .4 .1 in
+    rw (c .step .ensures .1) (walking-less (rooted (start t) _ q) (stands t .replaying .walking) (t .loop .j) (served (c .before)))
 
--- and goes beside the numbering
-goes : (c : tie.After-replay-step Inv-loop μ-loop) → let a = c .before .before .before .before .before .before .before .before .before .args in let k = c .replay-step in
+-- and what it yields is put
+goes : (c : tie.After-put-yield Inv-loop μ-loop) → let k = step-of c in let t = turn (k .before) in let a = start t .args in
     (root : ℕ) → NumberedFrom (a .dim) (a .darts) (a .tables .now) root (a .work .now)
-    → Replaying (a .dim) (a .darts) (a .tables .now) root (a .work .now) (a .start) (k .result .count) (k .last .1 .1 .0) (a .pen) (k .result .pen) (a .out .now) (k .last .1 .1 .1 .1 .1 .1 .1 .1 .0)
+    → Writing (a .dim) (a .darts) (a .tables .now) root (k .step .result .count) (k .step .last .1 .1 .0) (a .start) (a .pen) (c .put-yield .result)
+    (a .out .now)
+    (c .put-yield .last .1 .1 .1 .0)
 goes c root q =
-    let s = c .before .before .before .before .before .before .before .before .before in
-    let a = s .args in
-    let l = c .before .before .before .before .before .loop in
-    let k = c .replay-step .ensures in
-    rw (k .left, k .count) (replay-goes (a .dim) (a .darts) (a .tables .now) _ (omega arith) (omega arith) (q .connected .rooted) (s .pre .1) (a .work .now) q (a .start) _ _ (l .inv .4 root q) (l .j) (served (c .before)) (k .put))
+    let k = step-of c in
+    let t = turn (k .before) in
+    let e = k .step .ensures in
+    writing-goes (rooted (start t) root q) q (t .loop .inv .4 root q) (t .loop .j) (served (k .before)) _ (e .0) (e .1) (c .put-yield .ensures)
 
 loop-less-2 : tie.Need-loop-less-2 Inv-loop μ-loop
-loop-less-2 c = omega (arith, nearer (c .before .before .before .before))
+loop-less-2 c = omega (arith, nearer (step-of (c .before .before .before)))
 
 loop-again-2 : tie.Need-loop-again-2 Inv-loop μ-loop
-loop-again-2 c = (search needs, search needs, omega arith, emptied-none _ _, goes (c .before .before .before .before))
+loop-again-2 c = (search needs, search needs, omega arith, emptied-none _ _, goes (c .before .before .before))
 
 loop-less-3 : tie.Need-loop-less-3 Inv-loop μ-loop
-loop-less-3 c = omega (arith, nearer (c .before .before .before .before))
+loop-less-3 c = omega (arith, nearer (step-of (c .before .before .before)))
 
 loop-again-3 : tie.Need-loop-again-3 Inv-loop μ-loop
 loop-again-3 c =
-    let l = c .before .before .before .before .before .before .before .before .before .loop in
-    let k = c .before .before .before .before .replay-step .ensures in
-    (search needs, search needs, l .inv .2, rw (k .left) (emptied-after (l .r .count) _ (l .positions) (l .j) (l .inv .3) (c .if2 .left)), goes (c .before .before .before .before))
+    let y = c .before .before .before in
+    let k = step-of y in
+    let l = turn (k .before) .loop in
+    (search needs, search needs, l .inv .2, rw (k .step .ensures .1) (emptied-after (l .count) _ (l .positions) (l .j) (l .inv .3) (c .if2 .left)), goes y)
 
 same-length : tie.Need-same-length Inv-loop μ-loop
 same-length c = search needs
 
 returns : tie.Need-returns Inv-loop μ-loop
 returns c = λ root q.
-    let s = c .before .before .before .before .before .before in
-    let a = s .args in
-    let l = c .before .before .loop in
-    replay-ends (a .dim) (a .darts) (a .tables .now) _ (omega arith) (omega arith) (q .connected .rooted) (s .pre .1) (a .work .now) q (a .start) _ _ (l .inv .4 root q) (l .j) (l .inv .3) (omega arith)
+    let t = c .before in
+    writing-ends (rooted (start t) root q) q (t .loop .inv .4 root q) (t .loop .j) (t .loop .inv .3) (omega arith)
 
 pub put-symbols-spec : {M : Type 1} → statement M
 put-symbols-spec =
     tie.close
-    (tie.spec Inv-loop μ-loop loop-holds mul-if1 array-read-if1 add-j loop-less loop-again slice-aggregate-replay-step replay-step-requires loop-less-2 loop-again-2 loop-less-3 loop-again-3 same-length returns)
+    (tie.spec Inv-loop μ-loop loop-holds mul-if1 array-read-if1 add-j loop-less loop-again slice-aggregate-step step-requires put-yield-requires
+    loop-less-2 loop-again-2 loop-less-3 loop-again-3 same-length returns)

@@ -1,10 +1,40 @@
 -- `writer::write` meets its contract: the check's refusals, then 10, then the page. Assumes nothing.
+use Prim.Native.Nat.{_≤_}
+use mathlib.Core.Path.{_≡_}
 use native.Mathlib.Omega.{arith}
+use lib.ListN.{length}
 use borrow.Author.Needs.{needs}
-use Rattle.rules.specs.Writing.{writeWork}
+use Rattle.rules.specs.Writing.{stream, writeWork}
+use Rattle.replay.specs.Replays.{NumberedFrom}
+use Rattle.pen.specs.Pens.{penned}
 use Rattle.writer.proofs.Writes.{write-refused, write-limits, write-longest, write-late, write-page, write-numbered}
 use Rattle.writer.proofs.write.Statement.{statement}
 use Rattle.writer.proofs.write.Tie as tie
+
+-- the places that the needs look back to: the start, the check, its acceptance
+abbrev start : tie.After-check → tie.Start
+start c = c .before .before .before .before .before
+
+abbrev checked : tie.Else1 → tie.After-check
+checked c = c .before .before .before .before
+
+abbrev passed : tie.After-emit → tie.Else1
+passed c = c .before .before .before
+
+-- the work room then holds the numbering, and the whole stream was put, as much of it as falls into the page
+numbered : (c : tie.Else1)
+    → let a = start (checked c) .args in NumberedFrom (a .dim) (a .darts) (a .tables .now) (a .root) (checked c .check .last .1 .1 .1 .1 .0)
+numbered c = let k = checked c in write-numbered _ _ _ _ (start k .args .work .now) _ (k .check .ensures .0) (c .if1 .left) _ (k .check .ensures .1)
+
+put : (c : tie.After-emit) → let a = start (checked (passed c)) .args in let s = stream (a .dim) (a .darts) (a .tables .now) (a .root) in
+    (c .emit .result ≡ length s) × (c .emit .last .1 .1 .1 .1 .1 .0 ≡ penned s (a .start) (a .out .now))
+put c = c .emit .ensures (start (checked (passed c)) .args .root) (numbered (passed c))
+
+-- a length fits its number
+short : (c : tie.After-emit) → c .emit .result ≤ 50178
+short c =
+    let k = checked (passed c) in
+    omega (arith, put c .0, write-longest _ _ _ _ (start k .args .work .now) _ (k .check .ensures .0) (passed c .if1 .left))
 
 check-requires : tie.Need-check-requires
 check-requires c κs = search needs
@@ -15,27 +45,20 @@ same-length c = search needs
 returns : tie.Need-returns
 unfolding writeWork
 returns c =
-    let a = c .before .before .before .before .before .before .before .before .before .args in
-    let i = c .before .before .before .before .check in
-    let (p, q) = write-refused (a .dim) (a .darts) (a .root) (a .tables .now) (a .work .now) (i .result) (i .ensures .0) (a .start) (a .out .now) (c .if1 .taken) in
-    (p, i .ensures .1, q)
+    let k = c .before .before .before .before in
+    let a = start k .args in
+    let (p, q) = write-refused _ _ _ _ (a .work .now) _ (k .check .ensures .0) (a .start) (a .out .now) (c .if1 .taken) in
+    (p, k .check .ensures .1, q)
 
 emit-requires : tie.Need-emit-requires
 emit-requires c κs =
-    let a = c .before .before .before .before .before .before .before .before .before .before .before .args in
-    let i = c .before .before .before .before .before .before .check in
-    let z = c .before .before .if1 .left in
-    let n = write-numbered (a .dim) (a .darts) (a .root) (a .tables .now) (a .work .now) (i .result) (i .ensures .0) z _ (i .ensures .1) in
-    let (l, v, k, h) = write-limits (a .dim) (a .darts) (a .root) (a .tables .now) (a .work .now) (i .result) (i .ensures .0) z in
-    (l, v, omega arith, (a .root, n))
+    let e = c .before .before in
+    let k = checked e in
+    let (l, v, w, h) = write-limits _ _ _ _ (start k .args .work .now) _ (k .check .ensures .0) (e .if1 .left) in
+    (l, v, omega arith, (start k .args .root, numbered e))
 
 cast-t18 : tie.Need-cast-t18
-cast-t18 c =
-    let a = c .before .before .before .before .before .before .before .before .before .before .before .before .before .before .before .args in
-    let i = c .before .before .before .before .before .before .before .before .before .before .check in
-    let z = c .before .before .before .before .before .before .if1 .left in
-    let n = write-numbered (a .dim) (a .darts) (a .root) (a .tables .now) (a .work .now) (i .result) (i .ensures .0) z _ (i .ensures .1) in
-    omega (arith, c .before .before .before .emit .ensures (a .root) n .0, write-longest (a .dim) (a .darts) (a .root) (a .tables .now) (a .work .now) (i .result) (i .ensures .0) z)
+cast-t18 c = omega (arith, short (c .before .before .before))
 
 same-length-2 : tie.Need-same-length-2
 same-length-2 c = search needs
@@ -46,32 +69,21 @@ same-length-3 c = search needs
 returns-2 : tie.Need-returns-2
 unfolding writeWork
 returns-2 c =
-    let a = c .before .before .before .before .before .before .before .before .before .before .before .before .before .before .before .args in
-    let i = c .before .before .before .before .before .before .before .before .before .before .check in
-    let z = c .before .before .before .before .before .before .if1 .left in
-    let n = write-numbered (a .dim) (a .darts) (a .root) (a .tables .now) (a .work .now) (i .result) (i .ensures .0) z _ (i .ensures .1) in
-    let (el, eo) = c .before .before .before .emit .ensures (a .root) n in
-    let (p, q) = write-late (a .dim) (a .darts) (a .root) (a .tables .now) (a .work .now) (i .result) (i .ensures .0) z (a .start) _ (a .out .now) _ el (c .if2 .taken) eo in
-    (p, i .ensures .1, q)
+    let e = c .before .before .before in
+    let k = checked (passed e) in
+    let a = start k .args in
+    let (l, o) = put e in
+    let (p, q) = write-late _ _ _ _ (a .work .now) _ (k .check .ensures .0) (passed e .if1 .left) (a .start) _ (a .out .now) _ l (c .if2 .taken) o in
+    (p, k .check .ensures .1, q)
 
 least-requires : tie.Need-least-requires
 least-requires c κs = search needs
 
 cast-t21 : tie.Need-cast-t21
-cast-t21 c =
-    let a = c .before .before .before .before .before .before .before .before .before .before .before .before .before .before .before .before .args in
-    let i = c .before .before .before .before .before .before .before .before .before .before .before .check in
-    let z = c .before .before .before .before .before .before .before .if1 .left in
-    let n = write-numbered (a .dim) (a .darts) (a .root) (a .tables .now) (a .work .now) (i .result) (i .ensures .0) z _ (i .ensures .1) in
-    omega (arith, c .before .before .before .before .emit .ensures (a .root) n .0, write-longest (a .dim) (a .darts) (a .root) (a .tables .now) (a .work .now) (i .result) (i .ensures .0) z)
+cast-t21 c = omega (arith, short (c .before .before .before .before))
 
 cast-t22 : tie.Need-cast-t22
-cast-t22 c =
-    let a = c .before .before .before .before .before .before .before .before .before .before .before .before .before .before .before .before .args in
-    let i = c .before .before .before .before .before .before .before .before .before .before .before .check in
-    let z = c .before .before .before .before .before .before .before .if1 .left in
-    let n = write-numbered (a .dim) (a .darts) (a .root) (a .tables .now) (a .work .now) (i .result) (i .ensures .0) z _ (i .ensures .1) in
-    omega (arith, c .before .before .before .before .emit .ensures (a .root) n .0, write-longest (a .dim) (a .darts) (a .root) (a .tables .now) (a .work .now) (i .result) (i .ensures .0) z)
+cast-t22 c = omega (arith, short (c .before .before .before .before))
 
 same-length-4 : tie.Need-same-length-4
 same-length-4 c = search needs
@@ -82,13 +94,17 @@ same-length-5 c = search needs
 returns-3 : tie.Need-returns-3
 unfolding writeWork
 returns-3 c =
-    let a = c .before .before .before .before .before .before .before .before .before .before .before .before .before .before .before .before .args in
-    let i = c .before .before .before .before .before .before .before .before .before .before .before .check in
-    let z = c .before .before .before .before .before .before .before .if1 .left in
-    let n = write-numbered (a .dim) (a .darts) (a .root) (a .tables .now) (a .work .now) (i .result) (i .ensures .0) z _ (i .ensures .1) in
-    let (el, eo) = c .before .before .before .before .emit .ensures (a .root) n in
-    let (p, q) = write-page (a .dim) (a .darts) (a .root) (a .tables .now) (a .work .now) (i .result) (i .ensures .0) z (a .start) _ (a .out .now) _ (c .least .result) el (c .before .if2 .left) eo (omega arith) in
-    (p, i .ensures .1, q)
+    let e = c .before .before .before .before in
+    let k = checked (passed e) in
+    let a = start k .args in
+    let (l, o) = put e in
+    let (p, q) =
+    write-page _ _ _ _ (a .work .now) _ (k .check .ensures .0) (passed e .if1 .left) (a .start) _ (a .out .now) _ (c .least .result) l
+    (c .before .if2 .left) o (omega arith) in
+    (p, k .check .ensures .1, q)
 
 pub write-spec : {M : Type 1} → statement M
-write-spec = tie.close (tie.spec check-requires same-length returns emit-requires cast-t18 same-length-2 same-length-3 returns-2 least-requires cast-t21 cast-t22 same-length-4 same-length-5 returns-3)
+write-spec =
+    tie.close
+    (tie.spec check-requires same-length returns emit-requires cast-t18 same-length-2 same-length-3 returns-2 least-requires cast-t21 cast-t22
+    same-length-4 same-length-5 returns-3)

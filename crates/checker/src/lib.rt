@@ -1,0 +1,118 @@
+// The check of posted tables (refusals 1 to 9): the sizes, the tables, the numbering, and who has no number.
+use rules::CheckAnswer;
+use rules::Session;
+ghost use mathlib.Core.Path.{_≡_};
+ghost use Prim.Native.Nat.{_≤_};
+ghost use lib.ListN.{length};
+ghost use Rattle.rules.specs.Lists.{first};
+ghost use Rattle.rules.specs.Map.{Limits};
+ghost use Rattle.rules.specs.Check.{checkAnswer, checkWork};
+ghost use Rattle.checker.specs.Parts.{numberless, misfitOf, misbuiltOf};
+
+// The least dart that has no walk number, or n.
+pub fn first_unnumbered(work: &[u16], darts: usize) -> usize
+    requires { ⌜ darts ≤ length (now work) ⌝ }
+    ensures { λ r. ⌜ r ≡ first (numberless (now (work .entry))) darts ⌝ }
+{
+    let mut d = 0;
+    while d < darts {
+        if work[d] == Session::NO_LINK {
+            return d;
+        }
+        d += 1;
+    }
+    d
+}
+
+// Refusals 1 to 5, or 0.
+pub fn misfit(dim: usize, darts: usize, root: usize, tables: usize, work: usize) -> u32
+    ensures { λ r. ⌜ r ≡ misfitOf dim darts root tables work ⌝ }
+{
+    if dim < 1 {
+        return 1;
+    }
+    if 6 < dim {
+        return 1;
+    }
+    if darts < 1 {
+        return 2;
+    }
+    if Session::DARTS < darts {
+        return 2;
+    }
+    if tables < (dim + 1) * darts {
+        return 3;
+    }
+    if work < 2 * darts {
+        return 4;
+    }
+    if darts <= root {
+        return 5;
+    }
+    0
+}
+
+// Refusals 6 to 8, or number 0.
+pub fn misbuilt(tables: &[u16], dim: usize, darts: usize) -> CheckAnswer
+    requires { ⌜ Limits dim darts (now tables) ⌝ }
+    ensures { λ r. ⌜ r ≡ misbuiltOf dim darts (now (tables .entry)) ⌝ }
+{
+    let size = (dim + 1) * darts;
+    // a link that leads back is a dart: where all do, 6 needs no search of its own
+    let t = tables::first_twisted(tables, dim, darts);
+    if t < size {
+        let k = tables::first_outside(tables, dim, darts);
+        if k < size {
+            return CheckAnswer {
+                number: 6,
+                place: tables::place(dim, darts, k / darts, k % darts) as u32,
+            };
+        }
+        return CheckAnswer {
+            number: 7,
+            place: tables::place(dim, darts, t / darts, t % darts) as u32,
+        };
+    }
+    let d = tables::first_broken(tables, dim, darts);
+    if d < darts {
+        return CheckAnswer {
+            number: 8,
+            place: d as u32,
+        };
+    }
+    CheckAnswer {
+        number: 0,
+        place: 0,
+    }
+}
+
+// The check of posted tables.
+pub fn check(dim: usize, darts: usize, root: usize, tables: &[u16], work: &mut [u16]) -> CheckAnswer
+    ensures { λ r. ⌜ (r ≡ checkAnswer dim darts root (now (tables .entry)) (now (work .entry)))
+        × (now (work .exit) ≡ checkWork dim darts root (now (tables .entry)) (now (work .entry))) ⌝ }
+{
+    let first = misfit(dim, darts, root, tables.len(), work.len());
+    if first != 0 {
+        return CheckAnswer {
+            number: first,
+            place: 0,
+        };
+    }
+    let next = misbuilt(tables, dim, darts);
+    if next.number != 0 {
+        return next;
+    }
+    walk::number_all(tables, work, dim, darts, root);
+    let d = first_unnumbered(work, darts);
+    if d < darts {
+        tables::blank(work, 2 * darts);
+        return CheckAnswer {
+            number: 9,
+            place: d as u32,
+        };
+    }
+    CheckAnswer {
+        number: 0,
+        place: 0,
+    }
+}

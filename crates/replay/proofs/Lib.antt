@@ -1,0 +1,4 @@
+pub mod Laws
+pub mod Cases
+pub mod Finished
+pub mod Replays
