@@ -22,8 +22,8 @@ use Rattle.rules.proofs.Check.{Case, Passes, refused-case, refused-some, fine-p
 use Rattle.walk.specs.Numbers.{numberless, misfitOf, misbuiltOf}
 use Rattle.walk.proofs.Verdicts.{check-sizes, check-limits, check-tables, check-valid, tabled-on}
 use Rattle.report.specs.Answer.{refusalOf, countedOf}
-use Rattle.report.specs.Flood.{Spanned, AllMarked}
-use Rattle.report.proofs.Floods.{linked-reached}
+use Rattle.flood.proofs.Floods.{linked-reached}
+use Rattle.report.specs.Spans.{Spanned, AllMarked}
 
 -- a refusal that the check would give too
 refused-as : (N n : ℕ) (t w w' : List ℕ) (nr p : ℕ) → (record { number = nr; place = p } ≡ checkAnswer N n 0 t w) × (w' ≡ checkWork N n 0 t w) → nr ≢ 0 → (refusalOf nr p ≡ reportAnswer N n t w) × (w' ≡ reportWork N n t w)

@@ -6,7 +6,6 @@ use mathlib.Core.Logic.{_≢_}
 use mathlib.Core.Bool.{Bool, true, false, not}
 use mathlib.Core.List.{List}
 use native.Mathlib.Omega.{arith}
-use native.Mathlib.Nat.{mul-le-mul}
 use native.Mathlib.Decide.{ℕ-discrete}
 use lib.ListN.{getD}
 use lib.Dec.{eqb}
@@ -18,8 +17,10 @@ use Rattle.rules.proofs.Lists.{Sought, sought-start, first-le, first-passes, fi
 use Rattle.rules.proofs.Places.{nth-rank, nth-dart, nth-below, rank-nth, dart-nth}
 use Rattle.rules.proofs.Orbits.{valid-closed, reached-below}
 use Rattle.rules.proofs.Cells.{Orientable, orientable-sound, orientable-complete}
-use Rattle.report.specs.Flood.{Linked, Spanned, AllMarked, alike}
-use Rattle.report.proofs.Floods.{linked-two, linked-reached}
+use Rattle.flood.specs.Flood.{Linked}
+use Rattle.flood.proofs.Floods.{linked-two, linked-reached}
+use Rattle.report.specs.Spans.{Spanned, AllMarked}
+use Rattle.report.specs.Tests.{alike}
 
 -- the class that a dart has by the number of links from a dart of class b
 turn : ℕ → Bool → Bool
@@ -58,12 +59,9 @@ module _ (N n : ℕ) (t w : List ℕ) (i d x : ℕ) (hd : d < n) (e : x ≡ link
   pub alike-no : getD w d 0 ≢ getD w x 0 → alike N n t w (i * n + d) ≡ false
   alike-no h = alike-test ∙ ne-eqb (getD w d 0) (getD w x 0) h
 
--- a search by ranks starts at the first link, and the darts of one rank are among the links
+-- a search by ranks starts at the first link
 pub rows-start : (f : ℕ → Bool) (k n : ℕ) → Sought f k (0 * n)
 rows-start f k n = let z : 0 * n ≡ 0 = omega arith in rw z (sought-start f k)
-
-pub row-within : (N n i : ℕ) → i ≤ N → i * n + n ≤ size N n
-row-within N n i h = omega (arith, mul-le-mul {n₁ = suc i} {m₁ = n} {n₂ = suc N} {m₂ = n} (omega arith) (omega arith))
 
 -- any classes that do agree with the numbers of links from a dart of class 0
 linked-class : {keep : ℕ → Bool} {N n : ℕ} {t : List ℕ} {s d m : ℕ} (v : Valid N n t) (O : Orientable N n t) → s < n → Linked keep N n t s 0 d m → O .class d ≡ turn m (O .class s)

@@ -16,9 +16,12 @@ use Rattle.rules.specs.Report.{leads, cells, freePairs, cellCounts}
 use Rattle.rules.proofs.Lists.{length-listOf, getD-listOf, getD-same, some-below, below-some}
 use Rattle.rules.proofs.Places.{rank-nth, dart-nth}
 use Rattle.tables.proofs.Laws.{entry-link}
-use Rattle.rules.proofs.Orbits.{valid-closed, reached-trans, reached-sym, reaches-reached, reached-reaches}
-use Rattle.report.specs.Flood.{Marked, Queue, Linked, Settled, Longer, Flooded, isFree}
-use Rattle.report.proofs.Floods.{longer-marked, reached-marked, linked-reached, flooded-longer, flooded-started, flooded-traced, flooded-settled, queue-blanked, none-blanked}
+use Rattle.rules.proofs.Orbits.{valid-closed, reached-sym, reaches-reached, reached-reaches}
+use Rattle.flood.specs.Flood.{Marked, Queue, Extended, Linked, Explored, Flooded}
+use Rattle.flood.proofs.Queues.{extended-marked, queue-blanked, none-blanked}
+use Rattle.flood.proofs.Floods.{linked-reached}
+use Rattle.flood.proofs.Orbits.{reached-marked, flooded-on, flooded-start, flooded-cases, flooded-explored}
+use Rattle.report.specs.Tests.{isFree}
 
 -- one number more below the bound
 count-yes : (f : ℕ → Bool) (k : ℕ) → f k ≡ true → countBelow (k + 1) f ≡ countBelow k f + 1
@@ -63,25 +66,25 @@ unfolding freePairs isFree
 free-end N n t i free e c = let z : i * n ≡ size N n = rw e (omega arith) in c ∙ ap (λ (x : ℕ). countBelow x (isFree N n t)) z
 
 -- floods of the cells of rank i have come to dart d
-pub record Counted (N n : ℕ) (t : List ℕ) (i d tail found : ℕ) (w : List ℕ) : Type 0 where
+pub record Swept (N n : ℕ) (t : List ℕ) (i d tail found : ℕ) (w : List ℕ) : Type 0 where
   pub queue : Queue n tail w
-  pub settled : Settled (allBut i) N n t 0 tail w
+  pub explored : Explored (allBut i) N n t 0 tail w
   pub traced : (x : ℕ) → x < n → Marked w x → (e : ℕ) × (e < d) × Reached (allBut i) N n t e x
   pub passed : (x : ℕ) → x < d → Marked w x
   pub count : found ≡ countBelow d (leads N n t i)
   pub few : found ≤ d
 
-pub counted-start : (N n : ℕ) (t : List ℕ) (i : ℕ) (w w' : List ℕ) → 2 * n ≤ length w → w' ≡ blank n w → Counted N n t i 0 0 0 w'
-counted-start N n t i w w' hw e = record {
+pub swept-start : (N n : ℕ) (t : List ℕ) (i : ℕ) (w w' : List ℕ) → 2 * n ≤ length w → w' ≡ blank n w → Swept N n t i 0 0 0 w'
+swept-start N n t i w w' hw e = record {
   queue = queue-blanked n w w' hw e;
-  settled = λ p hf ht. absurd (omega arith);
+  explored = λ p hf ht. absurd (omega arith);
   traced = λ x h m. absurd (none-blanked n w w' hw e x h m);
   passed = λ x h. absurd (omega arith);
   count = sym (count-none (leads N n t i));
   few = omega arith;
 }
 
-module _ {N n : ℕ} {t : List ℕ} (v : Valid N n t) {i d tail found : ℕ} {w : List ℕ} (R : Counted N n t i d tail found w) (hd : d < n) where
+module _ {N n : ℕ} {t : List ℕ} (v : Valid N n t) {i d tail found : ℕ} {w : List ℕ} (R : Swept N n t i d tail found w) (hd : d < n) where
   abbrev met : ℕ → Bool
   met e = reaches (allBut i) N n t d e
 
@@ -101,7 +104,8 @@ module _ {N n : ℕ} {t : List ℕ} (v : Valid N n t) {i d tail found : ℕ} {w 
       go true q =
           let (e, he, r) = some-below d met q in
           let C = valid-closed v in
-          absurd (reached-marked v (R .queue) (R .settled) (omega arith) (R .passed e he) (reached-sym C hd (reaches-reached (allBut i) N n t C d e hd (omega arith) r)) u)
+          let back = reached-sym C hd (reaches-reached (allBut i) N n t C d e hd (omega arith) r) in
+          absurd (reached-marked (R .queue) (R .explored) (omega arith) (R .passed e he) back .1 u)
 
   passed-next : (w' : List ℕ) → ((x : ℕ) → x < d → Marked w' x) → Marked w' d → (x : ℕ) → x < d + 1 → Marked w' x
   passed-next w' before m x h = go (ℕ-discrete x d)
@@ -110,36 +114,36 @@ module _ {N n : ℕ} {t : List ℕ} (v : Valid N n t) {i d tail found : ℕ} {w 
       go (yes e) = rw e m
       go (no e) = before x (omega arith)
 
-  pub counted-old : Marked w d → Counted N n t i (d + 1) tail found w
-  counted-old m = record {
+  pub swept-old : Marked w d → Swept N n t i (d + 1) tail found w
+  swept-old m = record {
     queue = R .queue;
-    settled = R .settled;
+    explored = R .explored;
     traced = λ x h y. let (e, he, r) = R .traced x h y in (e, omega arith, r);
     passed = passed-next w (R .passed) m;
     count = R .count ∙ sym (count-no (leads N n t i) d (leads-no m));
     few = omega (arith, R .few);
   }
 
-  pub counted-new : {tail' : ℕ} {w' : List ℕ} → getD w d 0 ≡ mark → Flooded (allBut i) N n t d 0 tail tail' w w' → Counted N n t i (d + 1) tail' (found + 1) w'
-  counted-new {tail'} {w'} u F = record {
+  pub swept-new : {tail' : ℕ} {w' : List ℕ} → getD w d 0 ≡ mark → Flooded (allBut i) N n t d 0 tail tail' w w' → Swept N n t i (d + 1) tail' (found + 1) w'
+  swept-new {tail'} {w'} u F = record {
     queue = L .queue;
-    settled = flooded-settled (R .queue) hd (omega arith) F v (R .settled);
-    traced = λ x h y. from x (flooded-traced (R .queue) hd (omega arith) F x h y);
-    passed = passed-next w' (λ x h. longer-marked L (omega arith) (R .passed x h)) (flooded-started (R .queue) hd (omega arith) F);
+    explored = flooded-explored (R .queue) hd (omega arith) F (R .explored);
+    traced = λ x h y. from x h (flooded-cases (R .queue) hd (omega arith) F x h y);
+    passed = passed-next w' (λ x h. extended-marked L (omega arith) (R .passed x h)) (flooded-start (R .queue) hd (omega arith) F);
     count = ap (λ (x : ℕ). x + 1) (R .count) ∙ sym (count-yes (leads N n t i) d (leads-yes u));
     few = omega (arith, R .few);
   }
     where
-      L : Longer n tail tail' w w'
-      L = flooded-longer (R .queue) hd (omega arith) F
+      L : Extended n tail tail' w w'
+      L = flooded-on (R .queue) hd (omega arith) F
 
-      from : (x : ℕ) → ((e : ℕ) × (e < n) × Marked w e × Linked (allBut i) N n t e (getD w e 0) x (getD w' x 0)) ⊎ Linked (allBut i) N n t d 0 x (getD w' x 0) → (e : ℕ) × (e < d + 1) × Reached (allBut i) N n t e x
-      from x (inl (e, he, m, r)) = let (f, hf, s) = R .traced e he m in (f, omega arith, reached-trans s (linked-reached r))
-      from x (inr r) = (d, omega arith, linked-reached r)
+      from : (x : ℕ) → x < n → Marked w x ⊎ Linked (allBut i) N n t d 0 x (getD w' x 0) → (e : ℕ) × (e < d + 1) × Reached (allBut i) N n t e x
+      from x h (inl m) = let (e, he, r) = R .traced x h m in (e, omega arith, r)
+      from x h (inr r) = (d, omega arith, linked-reached r)
 
-pub counted-end : {N n : ℕ} {t : List ℕ} {i d tail found : ℕ} {w : List ℕ} → Counted N n t i d tail found w → d ≡ n → found ≡ cells N n t i
+pub swept-end : {N n : ℕ} {t : List ℕ} {i d tail found : ℕ} {w : List ℕ} → Swept N n t i d tail found w → d ≡ n → found ≡ cells N n t i
 unfolding cells
-counted-end {N} {n} {t} {i} R e = R .count ∙ ap (λ (x : ℕ). countBelow x (leads N n t i)) e
+swept-end {N} {n} {t} {i} R e = R .count ∙ ap (λ (x : ℕ). countBelow x (leads N n t i)) e
 
 -- the counts of the ranks below i are there, and the others are 0
 pub record Tallied (N n : ℕ) (t : List ℕ) (i : ℕ) (counts : List ℕ) : Type 0 where

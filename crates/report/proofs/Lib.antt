@@ -1,4 +1,3 @@
-pub mod Floods
 pub mod Spans
 pub mod Counts
 pub mod Classes

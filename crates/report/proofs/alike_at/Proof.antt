@@ -2,7 +2,7 @@
 use Prim.Native.Nat.{_+_, _*_, _-_}
 use native.Mathlib.Omega.{arith}
 use Rattle.rules.proofs.Lists.{Sought, sought-start, sought-next, sought-here, sought-end}
-use Rattle.report.specs.Flood.{alike}
+use Rattle.report.specs.Tests.{alike}
 use Rattle.report.proofs.Classes.{alike-yes, alike-no}
 use Rattle.report.proofs.alike_at.Statement.{statement}
 use Rattle.report.proofs.alike_at.Tie as tie

@@ -4,8 +4,9 @@ use mathlib.Core.Path.{_≡_}
 use native.Mathlib.Omega.{arith}
 use Rattle.rules.specs.Map.{size}
 use Rattle.rules.proofs.Lists.{Sought, sought-none, sought-among, sought-end}
-use Rattle.report.specs.Flood.{alike}
-use Rattle.report.proofs.Classes.{rows-start, row-within}
+use Rattle.rules.proofs.Places.{row-within}
+use Rattle.report.specs.Tests.{alike}
+use Rattle.report.proofs.Classes.{rows-start}
 use Rattle.report.proofs.first_alike.Statement.{statement}
 use Rattle.report.proofs.first_alike.Tie as tie
 

@@ -5,7 +5,7 @@ use mathlib.Core.Logic.{⊎-elim}
 use native.Mathlib.Omega.{arith}
 use Rattle.rules.specs.Lists.{countBelow}
 use Rattle.tables.proofs.Laws.{place-within}
-use Rattle.report.specs.Flood.{isFree}
+use Rattle.report.specs.Tests.{isFree}
 use Rattle.report.proofs.Counts.{count-none, free-yes, free-no}
 use Rattle.report.proofs.free_at.Statement.{statement}
 use Rattle.report.proofs.free_at.Tie as tie

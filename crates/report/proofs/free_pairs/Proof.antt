@@ -3,7 +3,7 @@ use Prim.Native.Nat.{_+_, _*_, _-_, _≤_}
 use mathlib.Core.Path.{_≡_}
 use native.Mathlib.Omega.{arith}
 use Rattle.rules.specs.Lists.{countBelow}
-use Rattle.report.specs.Flood.{isFree}
+use Rattle.report.specs.Tests.{isFree}
 use Rattle.report.proofs.Counts.{free-start, free-next, free-end}
 use Rattle.report.proofs.free_pairs.Statement.{statement}
 use Rattle.report.proofs.free_pairs.Tie as tie

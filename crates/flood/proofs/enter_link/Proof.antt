@@ -1,8 +1,8 @@
--- `report::follow` meets its contract: a link leads to a dart. Assumes nothing.
+-- `flood::enter_link` meets its contract: the link is a dart. Assumes nothing.
 use native.Mathlib.Omega.{arith}
 use borrow.Author.Needs.{needs}
-use Rattle.report.proofs.follow.Statement.{statement}
-use Rattle.report.proofs.follow.Tie as tie
+use Rattle.flood.proofs.enter_link.Statement.{statement}
+use Rattle.flood.proofs.enter_link.Tie as tie
 
 link-at-requires : tie.Need-link-at-requires
 link-at-requires c κs = search needs
@@ -10,7 +10,7 @@ link-at-requires c κs = search needs
 enter-requires : tie.Need-enter-requires
 enter-requires c κs =
     let p = c .before .before .before .before .pre in
-    (omega arith, p .2, rw (c .before .link-at .ensures) (p .1 .inside _ _ (p .3) (p .4)))
+    (omega arith, p .1, rw (c .before .link-at .ensures) (p .4))
 
 same-length : tie.Need-same-length
 same-length c = search needs
@@ -20,5 +20,5 @@ returns c =
     let e = c .before .before .before .before .link-at .ensures in
     rw (← e) (c .before .before .enter .ensures)
 
-pub follow-spec : {M : Type 1} → statement M
-follow-spec = tie.close (tie.spec link-at-requires enter-requires same-length returns)
+pub enter-link-spec : {M : Type 1} → statement M
+enter-link-spec = tie.close (tie.spec link-at-requires enter-requires same-length returns)

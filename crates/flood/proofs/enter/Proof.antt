@@ -1,13 +1,13 @@
--- `report::enter` meets its contract: a dart that has no mark is not in the queue, so the queue has room for it. Assumes nothing.
+-- `flood::enter` meets its contract: a dart that has no mark is not in the queue, so the queue has room for it. Assumes nothing.
 use mathlib.Core.Path.{refl}
 use native.Mathlib.Omega.{arith}
 use lib.ListN.{length-set}
 use borrow.Author.Needs.{needs}
 use borrow.Author.Tests.{eq-eqb, ne-eqb}
-use Rattle.report.specs.Flood.{enteredRoom, enteredTail}
-use Rattle.report.proofs.Floods.{tail-below}
-use Rattle.report.proofs.enter.Statement.{statement}
-use Rattle.report.proofs.enter.Tie as tie
+use Rattle.flood.specs.Flood.{enteredRoom, enteredTail}
+use Rattle.flood.proofs.Queues.{tail-below}
+use Rattle.flood.proofs.enter.Statement.{statement}
+use Rattle.flood.proofs.enter.Tie as tie
 
 mul-if1 : tie.Need-mul-if1
 mul-if1 c = search needs
