@@ -1,4 +1,3 @@
 pub mod Spans
-pub mod Counts
 pub mod Classes
 pub mod Answers

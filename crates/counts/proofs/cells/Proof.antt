@@ -1,4 +1,4 @@
--- `report::cells` meets its contract: each dart below d is marked, and the darts from which floods were started are those that lead their cells. Assumes nothing.
+-- `counts::cells` meets its contract: each dart below d is marked, and the darts from which floods were started are those that lead their cells. Assumes nothing.
 use Prim.Native.Nat.{_*_, _-_, _≤_}
 use mathlib.Core.Path.{_≡_, refl, _∙_}
 use mathlib.Core.Logic.{⊎-elim}
@@ -6,9 +6,9 @@ use native.Mathlib.Omega.{arith}
 use lib.ListN.{length, drop}
 use Rattle.flood.proofs.Queues.{past-blanked}
 use Rattle.flood.proofs.Orbits.{orbit-inside, flooded-but, flooded-on}
-use Rattle.report.proofs.Counts.{Swept, swept-start, swept-old, swept-new, swept-end}
-use Rattle.report.proofs.cells.Statement.{statement}
-use Rattle.report.proofs.cells.Tie as tie
+use Rattle.counts.proofs.Counts.{Swept, swept-start, swept-old, swept-new, swept-end}
+use Rattle.counts.proofs.cells.Statement.{statement}
+use Rattle.counts.proofs.cells.Tie as tie
 
 abbrev Inv-loop : tie.InvT-loop
 Inv-loop tables work₀ dim darts skip ranks found₀ tail₀ d₀ work found tail d =

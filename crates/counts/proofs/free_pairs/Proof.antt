@@ -1,12 +1,12 @@
--- `report::free_pairs` meets its contract: after each turn the free pairs of the ranks below are counted. Assumes nothing.
+-- `counts::free_pairs` meets its contract: after each turn the free pairs of the ranks below are counted. Assumes nothing.
 use Prim.Native.Nat.{_+_, _*_, _-_, _≤_}
 use mathlib.Core.Path.{_≡_}
 use native.Mathlib.Omega.{arith}
 use Rattle.rules.specs.Lists.{countBelow}
-use Rattle.report.specs.Tests.{isFree}
-use Rattle.report.proofs.Counts.{free-start, free-next, free-end}
-use Rattle.report.proofs.free_pairs.Statement.{statement}
-use Rattle.report.proofs.free_pairs.Tie as tie
+use Rattle.counts.specs.Tests.{isFree}
+use Rattle.counts.proofs.Counts.{free-start, free-next, free-end}
+use Rattle.counts.proofs.free_pairs.Statement.{statement}
+use Rattle.counts.proofs.free_pairs.Tie as tie
 
 abbrev Inv-loop : tie.InvT-loop
 Inv-loop tables dim darts free₀ rank₀ free rank = (rank ≤ dim + 1) × (free ≤ rank * 65535) × (free ≡ countBelow (rank * darts) (isFree dim darts tables))

@@ -1,14 +1,14 @@
--- `report::free_at` meets its contract: after d turns the free pairs among the first d darts are counted. Assumes nothing.
+-- `counts::free_at` meets its contract: after d turns the free pairs among the first d darts are counted. Assumes nothing.
 use Prim.Native.Nat.{_+_, _*_, _-_, _≤_}
 use mathlib.Core.Path.{_≡_, sym, _∙_}
 use mathlib.Core.Logic.{⊎-elim}
 use native.Mathlib.Omega.{arith}
 use Rattle.rules.specs.Lists.{countBelow}
 use Rattle.tables.proofs.Laws.{place-within}
-use Rattle.report.specs.Tests.{isFree}
-use Rattle.report.proofs.Counts.{count-none, free-yes, free-no}
-use Rattle.report.proofs.free_at.Statement.{statement}
-use Rattle.report.proofs.free_at.Tie as tie
+use Rattle.counts.specs.Tests.{isFree}
+use Rattle.counts.proofs.Counts.{count-none, free-yes, free-no}
+use Rattle.counts.proofs.free_at.Statement.{statement}
+use Rattle.counts.proofs.free_at.Tie as tie
 
 abbrev Inv-loop : tie.InvT-loop
 Inv-loop tables dim darts rank free₀ d₀ free d = (d ≤ darts) × (free ≤ d) × (free ≡ countBelow d (λ d. isFree dim darts tables (rank * darts + d)))

@@ -1,11 +1,11 @@
--- `report::cell_counts` meets its contract: after i turns the counts of the ranks below i are there, and the others are 0; that of rank N comes last. Assumes nothing.
+-- `counts::cell_counts` meets its contract: after i turns the counts of the ranks below i are there, and the others are 0; that of rank N comes last. Assumes nothing.
 use Prim.Native.Nat.{_*_, _-_, _≤_}
 use mathlib.Core.Path.{_≡_, refl, _∙_}
 use native.Mathlib.Omega.{arith}
 use lib.ListN.{length, drop}
-use Rattle.report.proofs.Counts.{Tallied, tallied-start, tallied-next, tallied-end}
-use Rattle.report.proofs.cell_counts.Statement.{statement}
-use Rattle.report.proofs.cell_counts.Tie as tie
+use Rattle.counts.proofs.Counts.{Tallied, tallied-start, tallied-next, tallied-end}
+use Rattle.counts.proofs.cell_counts.Statement.{statement}
+use Rattle.counts.proofs.cell_counts.Tie as tie
 
 abbrev Inv-loop : tie.InvT-loop
 Inv-loop tables work₀ dim darts top counts₀ i₀ work counts i =

@@ -21,7 +21,7 @@ use Rattle.flood.specs.Flood.{Marked, Queue, Extended, Linked, Explored, Floode
 use Rattle.flood.proofs.Queues.{extended-marked, queue-blanked, none-blanked}
 use Rattle.flood.proofs.Floods.{linked-reached}
 use Rattle.flood.proofs.Orbits.{reached-marked, flooded-on, flooded-start, flooded-cases, flooded-explored}
-use Rattle.report.specs.Tests.{isFree}
+use Rattle.counts.specs.Tests.{isFree}
 
 -- one number more below the bound
 count-yes : (f : ℕ → Bool) (k : ℕ) → f k ≡ true → countBelow (k + 1) f ≡ countBelow k f + 1
