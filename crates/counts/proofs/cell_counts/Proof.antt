@@ -14,19 +14,26 @@ Inv-loop tables work₀ dim darts top counts₀ i₀ work counts i =
 abbrev μ-loop : tie.MeasureT-loop
 μ-loop tables work₀ dim darts top counts₀ i₀ work counts i = dim - i
 
+-- the entry, seen from the loop; the turn's start, seen from its end
+abbrev entry : tie.At-loop Inv-loop μ-loop → tie.Start Inv-loop μ-loop
+entry c = c .before .before .before
+
+abbrev turn : tie.After-slice-known2 Inv-loop μ-loop → tie.At-loop Inv-loop μ-loop
+turn c = c .before .before .before .before .before
+
 loop-holds : tie.Need-loop-holds Inv-loop μ-loop
 loop-holds c = (refl, omega arith, tallied-start _ _ _, refl)
 
 cells-requires : tie.Need-cells-requires Inv-loop μ-loop
 cells-requires c κs =
-    let p = c .before .before .before .before .before .pre in
+    let p = entry (c .before .before) .pre in
     (p .0, p .1, omega arith, omega arith)
 
 mul-counts : tie.Need-mul-counts Inv-loop μ-loop
 mul-counts c = omega arith
 
 array-write-counts : tie.Need-array-write-counts Inv-loop μ-loop
-array-write-counts c = let R = c .before .before .before .before .before .loop .inv .2 in omega arith
+array-write-counts c = let R = turn c .loop .inv .2 in omega arith
 
 add-i : tie.Need-add-i Inv-loop μ-loop
 add-i c = omega arith
@@ -36,7 +43,7 @@ loop-less c = omega arith
 
 loop-again : tie.Need-loop-again Inv-loop μ-loop
 loop-again c =
-    let l = c .before .before .before .before .before .loop in
+    let l = turn c .loop in
     let k = c .before .before .cells in
     (k .kept .1 .0 ∙ l .inv .0, omega arith, tallied-next (l .inv .2) _ (omega arith) (k .ensures .0), k .ensures .1 ∙ l .inv .3)
 
@@ -51,7 +58,7 @@ same-length c = c .before .loop .inv .0
 
 returns : tie.Need-returns Inv-loop μ-loop
 returns c =
-    let s = c .before .before .before .before in
+    let s = entry (c .before) in
     let l = c .before .loop in
     let z : l .i ≡ s .args .dim = omega arith in
     (tallied-end (tallied-next (rw z at (l .inv .2)) _ (omega arith) (s .pre .3)) refl, l .inv .3)

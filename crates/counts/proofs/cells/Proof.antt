@@ -24,6 +24,10 @@ blanked c = c .before .before .before
 abbrev entry : tie.After-all-but Inv-loop μ-loop → tie.Start Inv-loop μ-loop
 entry c = blanked c .before .before .before .before
 
+-- the turn's test, seen from after the flood
+abbrev test : tie.After-slice-known4 Inv-loop μ-loop → tie.In-loop Inv-loop μ-loop
+test c = c .before .before .before .before .before .before
+
 blank-requires : tie.Need-blank-requires Inv-loop μ-loop
 blank-requires c κs = omega arith
 
@@ -49,7 +53,7 @@ flood-requires c κs =
     (p .0, l .loop .inv .2 .queue, rw (l .before .all-but .ensures) (omega arith), orbit-inside (p .1) (omega arith), omega arith)
 
 add-found : tie.Need-add-found Inv-loop μ-loop
-add-found c = let R = c .before .before .before .before .before .before .before .loop .inv .2 in omega arith
+add-found c = let R = test c .before .loop .inv .2 in omega arith
 
 add-d : tie.Need-add-d Inv-loop μ-loop
 add-d c = omega arith
@@ -65,8 +69,8 @@ loop-again c =
     let skip = entry (l .before) .args .skip in
     ⊎-elim
     (λ w.
-      let F = flooded-but skip (l .before .all-but .ensures) (w .2 .ensures) in
-      rw (w .5, w .6, w .7) (w .2 .kept .1 .0 ∙ same, omega arith, swept-new v R (omega arith) (w .0 .taken) F, flooded-on (R .queue) (omega arith) (omega arith) F .past ∙ past))
+    let F = flooded-but skip (l .before .all-but .ensures) (w .2 .ensures) in
+    rw (w .5, w .6, w .7) (w .2 .kept .1 .0 ∙ same, omega arith, swept-new v R (omega arith) (w .0 .taken) F, flooded-on (R .queue) (omega arith) (omega arith) F .past ∙ past))
     (λ w. rw (w .1, w .2, w .3) (same, omega arith, swept-old v R (omega arith) (w .0 .left), past))
     (c .if1 .came)
 

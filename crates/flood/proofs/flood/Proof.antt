@@ -64,7 +64,7 @@ loop-again c =
     let l = turn c .loop in
     let k = c .before .before .spread in
     let S = rw (c .before .before .before .before .queued .ensures) at (k .ensures) in
-    (k .kept .1 .0 ∙ l .inv .0, flooding-next (l .inv .1) (c .before .before .before .before .before .before .loop-test .taken) S)
+    (k .kept .1 .0 ∙ l .inv .0, flooding-next (l .inv .1) (omega arith) S)
 
 same-length : tie.Need-same-length Inv-loop μ-loop
 same-length c = c .before .loop .inv .0 ∙ begun (c .before) .enter .kept .0

@@ -18,12 +18,19 @@ Inv-loop tables work₀ dim darts from to tail dart class end₀ i₀ work end i
 abbrev μ-loop : tie.MeasureT-loop
 μ-loop tables work₀ dim darts from to tail dart class end₀ i₀ work end i = to - i
 
+-- the entry, seen from the loop; the turn's start, seen from its end
+abbrev entry : tie.At-loop Inv-loop μ-loop → tie.Start Inv-loop μ-loop
+entry c = c .before .before .before
+
+abbrev turn : tie.After-slice-known2 Inv-loop μ-loop → tie.At-loop Inv-loop μ-loop
+turn c = c .before .before .before .before .before
+
 loop-holds : tie.Need-loop-holds Inv-loop μ-loop
 loop-holds c = (refl, omega arith, omega arith, spread-none _ (c .before .before .pre .1))
 
 enter-link-requires : tie.Need-enter-link-requires Inv-loop μ-loop
 enter-link-requires c κs =
-    let p = c .before .before .before .before .before .pre in
+    let p = entry (c .before .before) .pre in
     let l = c .before .before .loop in
     (p .0, l .inv .3 .on .queue, omega arith, p .3, p .4 (l .i) (omega arith) (between-yes _ _ _ (omega arith) (omega arith)))
 
@@ -35,9 +42,9 @@ loop-less c = omega arith
 
 loop-again : tie.Need-loop-again Inv-loop μ-loop
 loop-again c =
-    let s = c .before .before .before .before .before .before .before .before in
+    let s = entry (turn c) in
     let p = s .pre in
-    let l = c .before .before .before .before .before .loop in
+    let l = turn c .loop in
     let k = c .before .before .enter-link in
     let S = l .inv .3 in
     let e = extended-class (S .on) (p .3) (p .5) in
@@ -50,7 +57,7 @@ same-length c = search needs
 
 returns : tie.Need-returns Inv-loop μ-loop
 returns c =
-    let a = c .before .before .before .before .args in
+    let a = entry (c .before) .args in
     let l = c .before .loop in
     spread-same (λ j h. between-end (a .from) (a .to) (l .i) j (omega arith) (l .inv .2)) (l .inv .3)
 

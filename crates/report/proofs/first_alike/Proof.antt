@@ -16,12 +16,16 @@ Inv-loop tables work dim darts rank₀ rank = (rank ≤ dim + 1) × Sought (alik
 abbrev μ-loop : tie.MeasureT-loop
 μ-loop tables work dim darts rank₀ rank = dim + 1 - rank
 
+-- the entry, seen from the loop
+abbrev entry : tie.At-loop Inv-loop μ-loop → tie.Start Inv-loop μ-loop
+entry c = c .before .before .before
+
 loop-holds : tie.Need-loop-holds Inv-loop μ-loop
 loop-holds c = (omega arith, rows-start _ _ _)
 
 alike-at-requires : tie.Need-alike-at-requires Inv-loop μ-loop
 alike-at-requires c κs =
-    let p = c .before .before .before .before .pre in
+    let p = entry (c .before) .pre in
     (p .0, p .1, p .2, omega arith)
 
 mul-result : tie.Need-mul-result Inv-loop μ-loop
@@ -32,7 +36,7 @@ add-result c = omega arith
 
 returns : tie.Need-returns Inv-loop μ-loop
 returns c =
-    let a = c .before .before .before .before .before .before .args in
+    let a = entry (c .before .before .before) .args in
     let l = c .before .before .before .loop in
     sought-among (l .inv .1) (a .darts) _ (row-within (a .dim) (a .darts) (l .rank) (omega arith)) (c .before .alike-at .ensures) (c .if1 .taken)
 
@@ -44,7 +48,7 @@ loop-less c = omega arith
 
 loop-again : tie.Need-loop-again Inv-loop μ-loop
 loop-again c =
-    let a = c .before .before .before .before .before .before .args in
+    let a = entry (c .before .before .before) .args in
     let l = c .before .before .before .loop in
     let z : (l .rank + 1) * a .darts ≡ l .rank * a .darts + a .darts = omega arith in
     (omega arith, rw z (sought-none (l .inv .1) (a .darts) _ (row-within (a .dim) (a .darts) (l .rank) (omega arith)) (c .before .alike-at .ensures) (omega arith)))
@@ -54,7 +58,7 @@ mul-result-2 c = omega arith
 
 returns-2 : tie.Need-returns-2 Inv-loop μ-loop
 returns-2 c =
-    let a = c .before .before .before .before .args in
+    let a = entry (c .before) .args in
     let l = c .before .loop in
     let z : l .rank ≡ a .dim + 1 = omega arith in
     sought-end (l .inv .1) (rw z (omega arith))
