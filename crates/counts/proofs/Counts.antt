@@ -58,7 +58,8 @@ module _ (N n : ℕ) (t : List ℕ) (i d x : ℕ) (L : Limits N n t) (hi : i ≤
 pub free-start : (N n : ℕ) (t : List ℕ) → 0 ≡ countBelow (0 * n) (isFree N n t)
 free-start N n t = let z : 0 * n ≡ 0 = omega arith in rw z (sym (count-none (isFree N n t)))
 
-pub free-next : (N n : ℕ) (t : List ℕ) (i free more : ℕ) → free ≡ countBelow (i * n) (isFree N n t) → more ≡ countBelow n (λ d. isFree N n t (i * n + d)) → free + more ≡ countBelow ((i + 1) * n) (isFree N n t)
+pub free-next : (N n : ℕ) (t : List ℕ) (i free more : ℕ) → free ≡ countBelow (i * n) (isFree N n t)
+    → more ≡ countBelow n (λ d. isFree N n t (i * n + d)) → free + more ≡ countBelow ((i + 1) * n) (isFree N n t)
 free-next N n t i free more e q = let z : (i + 1) * n ≡ i * n + n = omega arith in rw (z, e, q) (sym (count-on (isFree N n t) (i * n) n))
 
 pub free-end : (N n : ℕ) (t : List ℕ) (i free : ℕ) → i ≡ N + 1 → free ≡ countBelow (i * n) (isFree N n t) → free ≡ freePairs N n t
@@ -168,10 +169,13 @@ module _ {N n i : ℕ} {t counts : List ℕ} (R : Tallied N n t i counts) where
 
   pub tallied-end : i ≡ N + 1 → counts ≡ cellCounts N n t
   unfolding cellCounts
-  tallied-end e = ext-getD 0 counts (listOf 7 count) (R .seven ∙ sym (length-listOf 7 count)) (λ j h. one j (decLe j N) ∙ sym (getD-listOf 7 count j 0 (omega (arith, R .seven))))
+  tallied-end e = ext-getD 0 counts (listOf 7 count) (R .seven ∙ sym (length-listOf 7 count)) (λ j h. one j (decLe j N) ∙ sym (listed j h))
     where
       count : ℕ → ℕ
       count j = cond (leb j N) (cells N n t j) 0
+
+      listed : (j : ℕ) → j < length counts → getD (listOf 7 count) j 0 ≡ count j
+      listed j h = getD-listOf 7 count j 0 (omega (arith, R .seven))
 
       one : (j : ℕ) → Dec (j ≤ N) → getD counts j 0 ≡ count j
       one j (yes h) = rw (le-leb j N h) (R .done j (omega arith))

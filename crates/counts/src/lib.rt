@@ -10,8 +10,10 @@ ghost use Rattle.counts.specs.Tests.{isFree};
 
 // The number of cells of a rank: a flood from each dart that none before it reached.
 pub fn cells(tables: &[u16], work: &mut [u16], dim: usize, darts: usize, skip: usize) -> u32
-    requires { ⌜ Limits dim darts (now tables) × Valid dim darts (now tables) × (2 * darts ≤ length (now work)) × (skip ≤ dim) ⌝ }
-    ensures { λ r. ⌜ (r ≡ Rattle.rules.specs.Report.cells dim darts (now (tables .entry)) skip) × (drop (2 * darts) (now (work .exit)) ≡ drop (2 * darts) (now (work .entry))) ⌝ }
+    requires { ⌜ Limits dim darts (now tables) × Valid dim darts (now tables) × (2 * darts ≤ length (now work))
+        × (skip ≤ dim) ⌝ }
+    ensures { λ r. ⌜ (r ≡ Rattle.rules.specs.Report.cells dim darts (now (tables .entry)) skip)
+        × (drop (2 * darts) (now (work .exit)) ≡ drop (2 * darts) (now (work .entry))) ⌝ }
 {
     tables::blank(work, darts);
     let ranks = flood::all_but(skip);
@@ -30,8 +32,10 @@ pub fn cells(tables: &[u16], work: &mut [u16], dim: usize, darts: usize, skip: u
 
 // The number of cells of each rank; past N it is 0. That of rank N is given.
 pub fn cell_counts(tables: &[u16], work: &mut [u16], dim: usize, darts: usize, top: u32) -> [u32; 7]
-    requires { ⌜ Limits dim darts (now tables) × Valid dim darts (now tables) × (2 * darts ≤ length (now work)) × (top ≡ Rattle.rules.specs.Report.cells dim darts (now tables) dim) ⌝ }
-    ensures { λ r. ⌜ (r ≡ cellCounts dim darts (now (tables .entry))) × (drop (2 * darts) (now (work .exit)) ≡ drop (2 * darts) (now (work .entry))) ⌝ }
+    requires { ⌜ Limits dim darts (now tables) × Valid dim darts (now tables) × (2 * darts ≤ length (now work))
+        × (top ≡ Rattle.rules.specs.Report.cells dim darts (now tables) dim) ⌝ }
+    ensures { λ r. ⌜ (r ≡ cellCounts dim darts (now (tables .entry)))
+        × (drop (2 * darts) (now (work .exit)) ≡ drop (2 * darts) (now (work .entry))) ⌝ }
 {
     let mut counts = [0u32; 7];
     let mut i = 0;
@@ -43,7 +47,8 @@ pub fn cell_counts(tables: &[u16], work: &mut [u16], dim: usize, darts: usize, t
     counts
 }
 
-// The number of free pairs of one rank. A count of 16 bits and no way out of the loop let the compiler take several darts at a time.
+// The number of free pairs of one rank. A count of 16 bits and no way out of the loop let the compiler take several
+// darts at a time.
 pub fn free_at(tables: &[u16], dim: usize, darts: usize, rank: usize) -> u16
     requires { ⌜ Limits dim darts (now tables) × (rank ≤ dim) ⌝ }
     ensures { λ r. ⌜ r ≡ countBelow darts (λ d. isFree dim darts (now (tables .entry)) (rank * darts + d)) ⌝ }

@@ -10,12 +10,14 @@ use lib.ListN.{getD}
 use Rattle.rules.specs.Map.{link, Reached}
 use Rattle.rules.proofs.Lists.{or-cases, or-left, or-right}
 use Rattle.flood.specs.declared.Ranks.{Ranks}
-use Rattle.flood.specs.Flood.{kept, between, Marked, queued, enteredRoom, enteredTail, Queue, Extended, Linked, Traced, Around, Explored, LinksInside, OrbitInside, SpreadFrom, Flooded}
+use Rattle.flood.specs.Flood.{kept, between, Marked, queued, enteredRoom, enteredTail, Queue, Extended, Linked, Traced, Around, Explored}
+use Rattle.flood.specs.Flood.{LinksInside, OrbitInside, SpreadFrom, Flooded}
 use Rattle.flood.proofs.Sets.{between-yes, between-none, between-only, between-next, between-end, kept-low, kept-high, kept-runs}
 use Rattle.flood.proofs.Queues.{Entered, extended-refl, extended-marked, extended-trans, extended-class, extended-place, queue-parts, entry}
 
 -- links go on from a dart to another, more ranks keep them, and every class is 0 or 1
-pub linked-trans : {keep : ℕ → Bool} {N n : ℕ} {t : List ℕ} {d c e m f k : ℕ} → Linked keep N n t d c e m → Linked keep N n t e m f k → Linked keep N n t d c f k
+pub linked-trans : {keep : ℕ → Bool} {N n : ℕ} {t : List ℕ} {d c e m f k : ℕ} → Linked keep N n t d c e m → Linked keep N n t e m f k
+    → Linked keep N n t d c f k
 linked-trans r Linked.here = r
 linked-trans r (Linked.onward i h k s) = Linked.onward i h k (linked-trans r s)
 
@@ -86,7 +88,8 @@ module _ {N n : ℕ} {t : List ℕ} where
   pub spread-join : {one other whole : ℕ → Bool} {d a b c : ℕ} {w w' w'' : List ℕ} → d < n → getD w d 0 < 2
       → ((i : ℕ) → i ≤ N → whole i ≡ (one i || other i)) → SpreadFrom one N n t d a b w w' → SpreadFrom other N n t d b c w' w''
       → SpreadFrom whole N n t d a c w w''
-  spread-join {one} {other} {whole} {d} {a} {b} {c} {w} {w'} {w''} hd h2 union S T = record { on = extended-trans (S .on) (T .on); traced = queue-parts P old new; around = around }
+  spread-join {one} {other} {whole} {d} {a} {b} {c} {w} {w'} {w''} hd h2 union S T =
+      record { on = extended-trans (S .on) (T .on); traced = queue-parts P old new; around = around }
     where
       P : ℕ → Type 0
       P p = Linked whole N n t d (getD w d 0) (queued n w'' p) (getD w'' (queued n w'' p) 0)
@@ -107,7 +110,11 @@ module _ {N n : ℕ} {t : List ℕ} where
   -- the same ranks by another test
   pub spread-same : {keep keep' : ℕ → Bool} {d tail tail' : ℕ} {w w' : List ℕ} → ((i : ℕ) → i ≤ N → keep' i ≡ keep i)
       → SpreadFrom keep N n t d tail tail' w w' → SpreadFrom keep' N n t d tail tail' w w'
-  spread-same f S = record { on = S .on; traced = λ p h k. linked-wider (λ i l e. f i l ∙ e) (S .traced p h k); around = λ i h k. S .around i h (sym (f i h) ∙ k) }
+  spread-same f S = record {
+    on = S .on;
+    traced = λ p h k. linked-wider (λ i l e. f i l ∙ e) (S .traced p h k);
+    around = λ i h k. S .around i h (sym (f i h) ∙ k);
+  }
 
   -- the start has come up
   pub flooding-start : {keep : ℕ → Bool} {start class tail tail' : ℕ} {w w' : List ℕ} → Queue n tail w → start < n → class < 2
@@ -130,7 +137,12 @@ module _ {N n : ℕ} {t : List ℕ} where
     -- it has been spread from
     pub flooding-next : {end' : ℕ} {w'' : List ℕ} → head < end → SpreadFrom keep N n t (queued n w' head) end end' w' w''
         → Flooding keep N n t start class tail tail' (head + 1) end' w w''
-    flooding-next {end'} {w''} h S = record { on = extended-trans (F .on) (S .on); begun = omega (arith, F .begun); traced = queue-parts P old new; explored = explored }
+    flooding-next {end'} {w''} h S = record {
+      on = extended-trans (F .on) (S .on);
+      begun = omega (arith, F .begun);
+      traced = queue-parts P old new;
+      explored = explored;
+    }
       where
         P : ℕ → Type 0
         P p = Linked keep N n t start class (queued n w'' p) (getD w'' (queued n w'' p) 0)

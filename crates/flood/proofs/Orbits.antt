@@ -50,12 +50,18 @@ module _ {keep : ℕ → Bool} {N n : ℕ} {t : List ℕ} {start class tail tail
   pub flooded-start : Marked w' start
   flooded-start = extended-marked (F .on) hs (entry Q hs hc .marked)
 
+  -- the darts at the old places were marked before
+  old-marked : {e : ℕ} (p : ℕ) → p < tail → queued n w' p ≡ e → Marked w e
+  old-marked p h z u =
+      let x : getD w (queued n w p) 0 ≡ mark = rw (← flooded-on .places p h, z) u in
+      omega (arith, Q .classes p h)
+
   -- what is marked was marked before or is linked to the start
   pub flooded-cases : (d : ℕ) → d < n → Marked w' d → Marked w d ⊎ Linked keep N n t start class d (getD w' d 0)
   flooded-cases d h m = let (p, k, z) = flooded-on .queue .entered d h m in go p k z (decLt p tail)
     where
       go : (p : ℕ) → p < tail' → queued n w' p ≡ d → Dec (p < tail) → Marked w d ⊎ Linked keep N n t start class d (getD w' d 0)
-      go p k z (yes l) = inl (λ u. let c = Q .classes p l in let e : getD w (queued n w p) 0 ≡ mark = rw (← flooded-on .places p l, z) u in omega arith)
+      go p k z (yes l) = inl (old-marked p l z)
       go p k z (no l) = inr (rw z at (F .traced p (omega arith) k))
 
   -- where all that was marked is explored all is
@@ -80,7 +86,7 @@ module _ {keep : ℕ → Bool} {N n : ℕ} {t : List ℕ} {start class tail tail
         where
           go : (p : ℕ) → p < tail' → queued n w' p ≡ e → Dec (p < tail) → (p : ℕ) × (tail ≤ p) × (p < tail') × (queued n w' p ≡ e) × (e < n) × Marked w' e
           go p k z (no h) = (p, omega arith, k, z, l, m)
-          go p k z (yes h) = absurd (none e r (λ u. let c = Q .classes p h in let x : getD w (queued n w p) 0 ≡ mark = rw (← flooded-on .places p h, z) u in omega arith))
+          go p k z (yes h) = absurd (none e r (old-marked p h z))
 
       found : {e : ℕ} → Reached keep N n t start e → (p : ℕ) × (tail ≤ p) × (p < tail') × (queued n w' p ≡ e) × (e < n) × Marked w' e
       found Reached.here = new Reached.here hs flooded-start

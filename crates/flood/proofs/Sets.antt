@@ -45,7 +45,7 @@ unfolding allBut
 but-other skip i k e = not-both (not (eqb i skip)) k (rw (eq-eqb i skip e))
 
 pub kept-but : (skip : ℕ) → kept (butOne skip) ≡ allBut skip
-kept-but skip = fun-ext (λ i. same-test (kept (butOne skip) i) (allBut skip i) (λ k. there i (kept-cases (butOne skip) i k)) (λ k. back i (but-other skip i k) (decLt i skip)))
+kept-but skip = fun-ext (λ i. one i)
   where
     there : (i : ℕ) → (i < skip) ⊎ (skip + 1 ≤ i) → allBut skip i ≡ true
     there i (inl h) = but-yes skip i (omega arith)
@@ -54,6 +54,10 @@ kept-but skip = fun-ext (λ i. same-test (kept (butOne skip) i) (allBut skip i) 
     back : (i : ℕ) → i ≢ skip → Dec (i < skip) → kept (butOne skip) i ≡ true
     back i e (yes h) = kept-low (butOne skip) i h
     back i e (no h) = kept-high (butOne skip) i (omega arith)
+
+    one : (i : ℕ) → kept (butOne skip) i ≡ allBut skip i
+    one i =
+        same-test (kept (butOne skip) i) (allBut skip i) (λ k. there i (kept-cases (butOne skip) i k)) (λ k. back i (but-other skip i k) (decLt i skip))
 
 -- the ranks at least two away from one
 pub kept-away : (j i : ℕ) → (i + 2 ≤ j) ⊎ (j + 2 ≤ i) → kept (twoAway j) i ≡ true

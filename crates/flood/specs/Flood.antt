@@ -1,4 +1,5 @@
--- What a flood does to the lent work room: the first n entries hold each dart's class, 0 or 1, or the mark; the next n the queue, the darts marked so far, in order.
+-- What a flood does to the lent work room: the first n entries hold each dart's class, 0 or 1, or the mark;
+-- the next n the queue, the darts marked so far, in order.
 use Prim.Native.Nat.{ℕ, _+_, _*_, _-_, _≤_, _<_}
 use mathlib.Core.Path.{_≡_}
 use mathlib.Core.Logic.{_≢_}

@@ -1,11 +1,12 @@
-// A flood over lent work room: all that links of a set of ranks reach from a dart is marked. The first n entries hold each dart's class,
-// 0 or 1, or the mark; the next n the queue: the darts marked so far, in the order in which they were.
+// A flood over lent work room: all that links of a set of ranks reach from a dart is marked. The first n entries hold
+// each dart's class, 0 or 1, or the mark; the next n the queue: the darts marked so far, in the order of their marking.
 use rules::Session;
 ghost use mathlib.Core.Path.{_≡_};
 ghost use Prim.Native.Nat.{_+_, _*_, _-_, _≤_, _<_};
 ghost use lib.ListN.{length, getD};
 ghost use Rattle.rules.specs.Map.{Limits, link};
-ghost use Rattle.flood.specs.Flood.{kept, butOne, between, enteredRoom, enteredTail, Queue, LinksInside, OrbitInside, SpreadFrom, Flooded};
+ghost use Rattle.flood.specs.Flood.{kept, butOne, between, enteredRoom, enteredTail, Queue, LinksInside};
+ghost use Rattle.flood.specs.Flood.{OrbitInside, SpreadFrom, Flooded};
 
 // A set of ranks as two runs: those below `low` and those from `high` on.
 pub struct Ranks {
@@ -35,7 +36,8 @@ pub fn queued(work: &[u16], darts: usize, place: usize) -> u16
 // A dart that has no mark gets its class and enters the queue. The answer is the queue's length.
 pub fn enter(work: &mut [u16], darts: usize, tail: usize, dart: u16, class: u16) -> usize
     requires { ⌜ (darts ≤ 4096) × Queue darts tail (now work) × (dart < darts) ⌝ }
-    ensures { λ r. ⌜ (r ≡ enteredTail (now (work .entry)) tail dart) × (now (work .exit) ≡ enteredRoom darts (now (work .entry)) tail dart class) ⌝ }
+    ensures { λ r. ⌜ (r ≡ enteredTail (now (work .entry)) tail dart)
+        × (now (work .exit) ≡ enteredRoom darts (now (work .entry)) tail dart class) ⌝ }
 {
     let d = dart as usize;
     if work[d] != Session::NO_LINK {
@@ -59,7 +61,9 @@ pub fn enter_link(
 ) -> usize
     requires { ⌜ Limits dim darts (now tables) × Queue darts tail (now work) × (rank ≤ dim) × (dart < darts)
         × (link dim darts (now tables) rank dart < darts) ⌝ }
-    ensures { λ r. ⌜ (r ≡ enteredTail (now (work .entry)) tail (link dim darts (now (tables .entry)) rank dart)) × (now (work .exit) ≡ enteredRoom darts (now (work .entry)) tail (link dim darts (now (tables .entry)) rank dart) class) ⌝ }
+    ensures { λ r. ⌜ (r ≡ enteredTail (now (work .entry)) tail (link dim darts (now (tables .entry)) rank dart))
+        × (now (work .exit)
+        ≡ enteredRoom darts (now (work .entry)) tail (link dim darts (now (tables .entry)) rank dart) class) ⌝ }
 {
     let x = tables::link_at(tables, dim, darts, rank, dart);
     enter(work, darts, tail, x, class)
@@ -77,8 +81,11 @@ pub fn spread_part(
     dart: u16,
     class: u16,
 ) -> usize
-    requires { ⌜ Limits dim darts (now tables) × Queue darts tail (now work) × (to ≤ dim + 1) × (dart < darts) × LinksInside (between from to) dim darts (now tables) dart × (getD (now work) dart 0 < 2) × (class ≡ 1 - getD (now work) dart 0) ⌝ }
-    ensures { λ r. ⌜ SpreadFrom (between from to) dim darts (now (tables .entry)) dart tail r (now (work .entry)) (now (work .exit)) ⌝ }
+    requires { ⌜ Limits dim darts (now tables) × Queue darts tail (now work) × (to ≤ dim + 1) × (dart < darts)
+        × LinksInside (between from to) dim darts (now tables) dart × (getD (now work) dart 0 < 2)
+        × (class ≡ 1 - getD (now work) dart 0) ⌝ }
+    ensures { λ r. ⌜ SpreadFrom (between from to) dim darts (now (tables .entry)) dart tail r
+        (now (work .entry)) (now (work .exit)) ⌝ }
 {
     let mut end = tail;
     let mut i = from;
@@ -89,7 +96,8 @@ pub fn spread_part(
     end
 }
 
-// The links of a set of ranks are followed from a dart: run by run, so that no turn of a loop asks whether a rank is of the set.
+// The links of a set of ranks are followed from a dart: run by run, so that no turn of a loop asks whether a rank is
+// of the set.
 pub fn spread(
     tables: &[u16],
     work: &mut [u16],
@@ -99,8 +107,10 @@ pub fn spread(
     tail: usize,
     dart: u16,
 ) -> usize
-    requires { ⌜ Limits dim darts (now tables) × Queue darts tail (now work) × (ranks .low ≤ dim + 1) × (dart < darts) × LinksInside (kept ranks) dim darts (now tables) dart × (getD (now work) dart 0 < 2) ⌝ }
-    ensures { λ r. ⌜ SpreadFrom (kept ranks) dim darts (now (tables .entry)) dart tail r (now (work .entry)) (now (work .exit)) ⌝ }
+    requires { ⌜ Limits dim darts (now tables) × Queue darts tail (now work) × (ranks .low ≤ dim + 1) × (dart < darts)
+        × LinksInside (kept ranks) dim darts (now tables) dart × (getD (now work) dart 0 < 2) ⌝ }
+    ensures { λ r. ⌜ SpreadFrom (kept ranks) dim darts (now (tables .entry)) dart tail r
+        (now (work .entry)) (now (work .exit)) ⌝ }
 {
     let class = 1 - work[dart as usize];
     let end = spread_part(tables, work, dim, darts, 0, ranks.low, tail, dart, class);
@@ -117,7 +127,8 @@ pub fn spread(
     )
 }
 
-// All that links of a set of ranks reach from a dart is marked; the dart gets a class, and each link leads to the other one.
+// All that links of a set of ranks reach from a dart is marked; the dart gets a class, and each link leads to the
+// other one.
 pub fn flood(
     tables: &[u16],
     work: &mut [u16],
@@ -128,8 +139,10 @@ pub fn flood(
     dart: u16,
     class: u16,
 ) -> usize
-    requires { ⌜ Limits dim darts (now tables) × Queue darts tail (now work) × (ranks .low ≤ dim + 1) × OrbitInside (kept ranks) dim darts (now tables) dart × (class < 2) ⌝ }
-    ensures { λ r. ⌜ Flooded (kept ranks) dim darts (now (tables .entry)) dart class tail r (now (work .entry)) (now (work .exit)) ⌝ }
+    requires { ⌜ Limits dim darts (now tables) × Queue darts tail (now work) × (ranks .low ≤ dim + 1)
+        × OrbitInside (kept ranks) dim darts (now tables) dart × (class < 2) ⌝ }
+    ensures { λ r. ⌜ Flooded (kept ranks) dim darts (now (tables .entry)) dart class tail r
+        (now (work .entry)) (now (work .exit)) ⌝ }
 {
     let mut end = enter(work, darts, tail, dart, class);
     let mut head = tail;

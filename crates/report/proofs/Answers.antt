@@ -26,16 +26,19 @@ use Rattle.flood.proofs.Floods.{linked-reached}
 use Rattle.report.specs.Spans.{Spanned, AllMarked}
 
 -- a refusal that the check would give too
-refused-as : (N n : ℕ) (t w w' : List ℕ) (nr p : ℕ) → (record { number = nr; place = p } ≡ checkAnswer N n 0 t w) × (w' ≡ checkWork N n 0 t w) → nr ≢ 0 → (refusalOf nr p ≡ reportAnswer N n t w) × (w' ≡ reportWork N n t w)
+refused-as : (N n : ℕ) (t w w' : List ℕ) (nr p : ℕ) → (record { number = nr; place = p } ≡ checkAnswer N n 0 t w) × (w' ≡ checkWork N n 0 t w)
+    → nr ≢ 0 → (refusalOf nr p ≡ reportAnswer N n t w) × (w' ≡ reportWork N n t w)
 unfolding checkAnswer checkAnswerOf checkWork workAfter reportAnswer reportAnswerOf reportWork reportWorkAfter refusalOf
 refused-as N n t w w' nr p (e, f) h = rw f (go (verdict N n 0 t (length w)) e)
   where
-    go : (v : Verdict) → record { number = nr; place = p } ≡ checkAnswerOf v → (refusalOf nr p ≡ reportAnswerOf N n t v) × (workAfter N n 0 t w v ≡ reportWorkAfter n w v)
+    go : (v : Verdict) → record { number = nr; place = p } ≡ checkAnswerOf v
+        → (refusalOf nr p ≡ reportAnswerOf N n t v) × (workAfter N n 0 t w v ≡ reportWorkAfter n w v)
     go Verdict.fine e = absurd (h (ap (λ (x : CheckAnswer). x .number) e))
     go (Verdict.refused nr' p') e = (rw (ap (λ (x : CheckAnswer). x .number) e, ap (λ (x : CheckAnswer). x .place) e), refl)
 
 -- the parts of a counted answer, and the work room blanked after them
-pub counted-parts : (N n : ℕ) (t counts : List ℕ) (free : ℕ) (o : Bool) → counts ≡ cellCounts N n t → free ≡ freePairs N n t → o ≡ orientable N n t → record { number = 0; place = 0; cells = counts; free = free; orientable = o } ≡ countedOf N n t
+pub counted-parts : (N n : ℕ) (t counts : List ℕ) (free : ℕ) (o : Bool) → counts ≡ cellCounts N n t → free ≡ freePairs N n t
+    → o ≡ orientable N n t → record { number = 0; place = 0; cells = counts; free = free; orientable = o } ≡ countedOf N n t
 unfolding countedOf
 counted-parts N n t counts free o ec ef eo = rw (ec, ef, eo)
 
@@ -85,7 +88,7 @@ module _ {N n d top : ℕ} {t w u : List ℕ} (T : Tabled N n t w) (S : Spanned 
 
   found : d ≡ first (unreached N n t 0) n
   unfolding unreached
-  found = ed ∙ first-same (numberless u) (unreached N n t 0) n (λ i l. rw (in-room i l) (alike i l (ℕ-discrete (getD u i 0) mark) (reaches allRanks N n t 0 i) refl))
+  found = ed ∙ first-same (numberless u) (unreached N n t 0) n (λ i l. rw (in-room i l) (each i l))
     where
       C : Closed N n t
       C = valid-closed (T .valid)
@@ -94,6 +97,9 @@ module _ {N n d top : ℕ} {t w u : List ℕ} (T : Tabled N n t w) (S : Spanned 
       alike i l (yes e) false q = rw (q, eq-eqb (getD u i 0) mark e)
       alike i l (yes e) true q = absurd (S .reached i (reaches-reached allRanks N n t C 0 i (T .some) l q) e)
       alike i l (no m) b q = rw (reached-reaches allRanks N n t C 0 i (T .some) (linked-reached (S .linked i l m)), ne-eqb (getD u i 0) mark m)
+
+      each : (i : ℕ) → i < n → eqb (getD u i 0) mark ≡ unreached N n t 0 i
+      each i l = alike i l (ℕ-discrete (getD u i 0) mark) (reaches allRanks N n t 0 i) refl
 
   -- u' is the work room at the end
   module _ {u' : List ℕ} (eu : u' ≡ blank (2 * n) u) (past : drop (2 * n) u ≡ drop (2 * n) w) where

@@ -64,10 +64,13 @@ pub rows-start : (f : ℕ → Bool) (k n : ℕ) → Sought f k (0 * n)
 rows-start f k n = let z : 0 * n ≡ 0 = omega arith in rw z (sought-start f k)
 
 -- any classes that do agree with the numbers of links from a dart of class 0
-linked-class : {keep : ℕ → Bool} {N n : ℕ} {t : List ℕ} {s d m : ℕ} (v : Valid N n t) (O : Orientable N n t) → s < n → Linked keep N n t s 0 d m → O .class d ≡ turn m (O .class s)
+linked-class : {keep : ℕ → Bool} {N n : ℕ} {t : List ℕ} {s d m : ℕ} (v : Valid N n t) (O : Orientable N n t) → s < n
+    → Linked keep N n t s 0 d m → O .class d ≡ turn m (O .class s)
 unfolding turn
 linked-class v O h Linked.here = refl
-linked-class {s = s} v O h (Linked.onward {e} {m} i hi k r) = O .other i e hi (reached-below (valid-closed v) h (linked-reached r)) ∙ (ap not (linked-class v O h r) ∙ sym (turn-next m (O .class s) (linked-two (omega arith) r)))
+linked-class {s = s} v O h (Linked.onward {e} {m} i hi k r) =
+    let below = reached-below (valid-closed v) h (linked-reached r) in
+    O .other i e hi below ∙ (ap not (linked-class v O h r) ∙ sym (turn-next m (O .class s) (linked-two (omega arith) r)))
 
 -- every dart has a class
 module _ {N n top : ℕ} {t w : List ℕ} (v : Valid N n t) (h1 : 1 ≤ n) (S : Spanned N n t top w) (all : AllMarked n w) where
@@ -83,7 +86,9 @@ module _ {N n top : ℕ} {t w : List ℕ} (v : Valid N n t) (h1 : 1 ≤ n) (S : 
       other i d hi hd =
           let a = first-before (alike N n t w) (size N n) (i * n + d) (omega (arith, nth-below N n i d hi hd)) in
           let b = rw (rank-nth n i d hd, dart-nth n i d hd) at a in
-          other-one (getD w d 0) (getD w (link N n t i d) 0) (linked-two (omega arith) (linked-all d hd)) (linked-two (omega arith) (linked-all (link N n t i d) (v .inside i d hi hd))) (eqb-false (getD w d 0) (getD w (link N n t i d) 0) b)
+          let two = linked-two (omega arith) (linked-all d hd) in
+          let too = linked-two (omega arith) (linked-all (link N n t i d) (v .inside i d hi hd)) in
+          other-one (getD w d 0) (getD w (link N n t i d) 0) two too (eqb-false (getD w d 0) (getD w (link N n t i d) 0) b)
 
   -- a link stays within a class: no classes do
   alike-refutes : first (alike N n t w) (size N n) < size N n → Orientable N n t → ⊥

@@ -1,4 +1,5 @@
--- Laws of what is reached from dart 0, marked one N-cell after another: one turn of the loop at a time, and what it comes to. Rests on Floods and the rules' Cells.
+-- Laws of what is reached from dart 0, marked one N-cell after another: one turn of the loop at a time, and what it comes to.
+-- Rests on the flood's Orbits and the rules' Cells.
 use Prim.Native.Nat.{ℕ, zero, suc, _+_, _*_, _-_, _≤_, _<_}
 use mathlib.Core.Path.{_≡_, refl, ap, sym, _∙_}
 use mathlib.Core.Logic.{_⊎_, inl, inr}
@@ -60,14 +61,15 @@ module _ {N n : ℕ} {t : List ℕ} (v : Valid N n t) {start class tail tail' : 
       go (inr r) = linked-trans s (linked-wider (λ i hi k. ranked i) r)
 
 -- the N-cell of dart 0
-pub spun-start : (w₀ : List ℕ) {N n tail : ℕ} {t w w' : List ℕ} → Valid N n t → 0 < n → 2 * n ≤ length w₀ → w ≡ blank n w₀ → Flooded (allBut N) N n t 0 0 0 tail w w' → Spun N n t 0 tail 1 w'
+pub spun-start : (w₀ : List ℕ) {N n tail : ℕ} {t w w' : List ℕ} → Valid N n t → 0 < n → 2 * n ≤ length w₀ → w ≡ blank n w₀
+    → Flooded (allBut N) N n t 0 0 0 tail w w' → Spun N n t 0 tail 1 w'
 spun-start w₀ {N} {n} {tail} {t} {w} {w'} v h hw e F = record {
   queue = F .on .queue;
   explored = F .explored;
   crossed = λ p l. absurd (omega arith);
   rooted = flooded-start Q h (omega arith) F;
   linked = linked-more v Q h (omega arith) u F Linked.here (λ d l m. absurd (none d l m));
-  begun = (0 ∷ [], refl, begun-more v Q h (omega arith) u F (λ p hf ht. absurd (omega arith)) (record { member = λ p l. absurd (omega arith); all = λ d m. absurd (none d (m .0) (m .1)); once = λ p q l k r. absurd (omega arith) }));
+  begun = (0 ∷ [], refl, begun-more v Q h (omega arith) u F (λ p hf ht. absurd (omega arith)) nothing);
   few = omega arith;
 }
   where
@@ -80,8 +82,20 @@ spun-start w₀ {N} {n} {tail} {t} {w} {w'} v h hw e F = record {
     none : (d : ℕ) → d < n → Marked w d → ⊥
     none = none-blanked n w₀ w hw e
 
+    nothing : Picks (λ d. (d < n) × Marked w d) (Cell N n t N) []
+    nothing = record {
+      member = λ p l. absurd (omega arith);
+      all = λ d m. absurd (none d (m .0) (m .1));
+      once = λ p q l k r. absurd (omega arith);
+    }
+
+-- a link leads to a dart
+pub link-below : {N n i d x : ℕ} {t : List ℕ} → Valid N n t → x ≡ link N n t i d → i ≤ N → d < n → x < n
+link-below {i = i} {d = d} v e hi hd = rw e (v .inside i d hi hd)
+
 -- d is the dart at the head of the queue
-module _ {N n head tail count : ℕ} {t w : List ℕ} (v : Valid N n t) (h : head < tail) (R : Spun N n t head tail count w) (d : ℕ) (ed : d ≡ queued n w head) where
+module _ {N n head tail count : ℕ} {t w : List ℕ} (v : Valid N n t) (h : head < tail) (R : Spun N n t head tail count w)
+    (d : ℕ) (ed : d ≡ queued n w head) where
   pub head-below : d < n
   head-below = rw ed (R .queue .darts head h)
 
@@ -100,8 +114,8 @@ module _ {N n head tail count : ℕ} {t w : List ℕ} (v : Valid N n t) (h : hea
 
   -- x is where its aN leads
   module _ (x : ℕ) (ex : x ≡ link N n t N d) where
-    pub across-below : x < n
-    across-below = rw ex (v .inside N d (omega arith) head-below)
+    across-below : x < n
+    across-below = link-below v ex (omega arith) head-below
 
     -- x has a mark
     pub spun-old : Marked w x → Spun N n t (head + 1) tail count w

@@ -12,7 +12,8 @@ use Rattle.flood.specs.Flood.{Marked, queued, Queue, Linked, Explored}
 abbrev pub AllMarked : ℕ → List ℕ → Type 0
 AllMarked n w = (d : ℕ) → d < n → Marked w d
 
--- N-cells are marked, that of dart 0 first, as far as aN leads from the darts of the queue below `head`; they are so many, and each class says by how many links
+-- N-cells are marked, that of dart 0 first, as far as aN leads from the darts of the queue below `head`;
+-- they are so many, and each class says by how many links
 pub record Spun (N n : ℕ) (t : List ℕ) (head tail count : ℕ) (w : List ℕ) : Type 0 where
   pub queue : Queue n tail w
   pub explored : Explored (allBut N) N n t 0 tail w
@@ -22,7 +23,8 @@ pub record Spun (N n : ℕ) (t : List ℕ) (head tail count : ℕ) (w : List ℕ
   pub begun : (l : List ℕ) × (length l ≡ count) × Picks (λ d. (d < n) × Marked w d) (Cell N n t N) l
   pub few : count ≤ head + 1
 
--- all that is reached from dart 0 is marked and nothing else, and each class says by how many links; where that is every dart, `count` is the number of N-cells
+-- all that is reached from dart 0 is marked and nothing else, and each class says by how many links;
+-- where that is every dart, `count` is the number of N-cells
 pub record Spanned (N n : ℕ) (t : List ℕ) (count : ℕ) (w : List ℕ) : Type 0 where
   pub linked : (d : ℕ) → d < n → Marked w d → Linked allRanks N n t 0 0 d (getD w d 0)
   pub reached : (d : ℕ) → Reached allRanks N n t 0 d → Marked w d

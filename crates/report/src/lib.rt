@@ -19,8 +19,10 @@ pub struct Spanning {
 
 // The first dart whose link of one rank stays within a class, or n.
 pub fn alike_at(tables: &[u16], work: &[u16], dim: usize, darts: usize, rank: usize) -> usize
-    requires { ⌜ Limits dim darts (now tables) × Valid dim darts (now tables) × (darts ≤ length (now work)) × (rank ≤ dim) ⌝ }
-    ensures { λ r. ⌜ r ≡ first (λ d. alike dim darts (now (tables .entry)) (now (work .entry)) (rank * darts + d)) darts ⌝ }
+    requires { ⌜ Limits dim darts (now tables) × Valid dim darts (now tables) × (darts ≤ length (now work))
+        × (rank ≤ dim) ⌝ }
+    ensures { λ r. ⌜ r
+        ≡ first (λ d. alike dim darts (now (tables .entry)) (now (work .entry)) (rank * darts + d)) darts ⌝ }
 {
     let mut d = 0;
     while d < darts {
@@ -49,7 +51,8 @@ pub fn first_alike(tables: &[u16], work: &[u16], dim: usize, darts: usize) -> us
     rank * darts
 }
 
-// The dart of the queue at `head`: where its aN has no mark, an N-cell begins there, and a flood by all other ranks marks it.
+// The dart of the queue at `head`: where its aN has no mark, an N-cell begins there, and a flood by all other ranks
+// marks it.
 pub fn span_step(
     tables: &[u16],
     work: &mut [u16],
@@ -58,8 +61,10 @@ pub fn span_step(
     head: usize,
     s: Spanning,
 ) -> Spanning
-    requires { ⌜ Limits dim darts (now tables) × Valid dim darts (now tables) × (head < s .tail) × Spun dim darts (now tables) head (s .tail) (s .cells) (now work) ⌝ }
-    ensures { λ r. ⌜ Spun dim darts (now (tables .entry)) (head + 1) (r .tail) (r .cells) (now (work .exit)) × (drop (2 * darts) (now (work .exit)) ≡ drop (2 * darts) (now (work .entry))) ⌝ }
+    requires { ⌜ Limits dim darts (now tables) × Valid dim darts (now tables) × (head < s .tail)
+        × Spun dim darts (now tables) head (s .tail) (s .cells) (now work) ⌝ }
+    ensures { λ r. ⌜ Spun dim darts (now (tables .entry)) (head + 1) (r .tail) (r .cells) (now (work .exit))
+        × (drop (2 * darts) (now (work .exit)) ≡ drop (2 * darts) (now (work .entry))) ⌝ }
 {
     let d = flood::queued(work, darts, head);
     let x = tables::link_at(tables, dim, darts, dim, d);
@@ -75,10 +80,12 @@ pub fn span_step(
     }
 }
 
-// All that is reached from dart 0 is marked, one N-cell after another; a class says by how many links. The answer is the number of those N-cells.
+// All that is reached from dart 0 is marked, one N-cell after another; a class says by how many links. The answer is
+// the number of those N-cells.
 pub fn span(tables: &[u16], work: &mut [u16], dim: usize, darts: usize) -> u32
     requires { ⌜ Limits dim darts (now tables) × Valid dim darts (now tables) × (2 * darts ≤ length (now work)) ⌝ }
-    ensures { λ r. ⌜ Spanned dim darts (now (tables .entry)) r (now (work .exit)) × (drop (2 * darts) (now (work .exit)) ≡ drop (2 * darts) (now (work .entry))) ⌝ }
+    ensures { λ r. ⌜ Spanned dim darts (now (tables .entry)) r (now (work .exit))
+        × (drop (2 * darts) (now (work .exit)) ≡ drop (2 * darts) (now (work .entry))) ⌝ }
 {
     tables::blank(work, darts);
     let ranks = flood::all_but(dim);
@@ -105,10 +112,13 @@ pub fn refusal(number: u32, place: u32) -> ReportAnswer
     }
 }
 
-// The answer for a connected map. If any two classes do, those by the number of links from dart 0 do, so the first link that stays within a class tells.
+// The answer for a connected map. If any two classes do, those by the number of links from dart 0 do, so the first
+// link that stays within a class tells.
 pub fn counted(tables: &[u16], work: &mut [u16], dim: usize, darts: usize, top: u32) -> ReportAnswer
-    requires { ⌜ Limits dim darts (now tables) × Valid dim darts (now tables) × (2 * darts ≤ length (now work)) × Spanned dim darts (now tables) top (now work) × AllMarked darts (now work) ⌝ }
-    ensures { λ r. ⌜ (r ≡ countedOf dim darts (now (tables .entry))) × (now (work .exit) ≡ blank (2 * darts) (now (work .entry))) ⌝ }
+    requires { ⌜ Limits dim darts (now tables) × Valid dim darts (now tables) × (2 * darts ≤ length (now work))
+        × Spanned dim darts (now tables) top (now work) × AllMarked darts (now work) ⌝ }
+    ensures { λ r. ⌜ (r ≡ countedOf dim darts (now (tables .entry)))
+        × (now (work .exit) ≡ blank (2 * darts) (now (work .entry))) ⌝ }
 {
     let size = (dim + 1) * darts;
     let orientable = first_alike(tables, work, dim, darts) == size;
@@ -124,9 +134,11 @@ pub fn counted(tables: &[u16], work: &mut [u16], dim: usize, darts: usize, top: 
     }
 }
 
-// The cell report of posted tables. What is reached from dart 0 serves refusal 9, the two classes and the number of N-cells.
+// The cell report of posted tables. What is reached from dart 0 serves refusal 9, the two classes and the number of
+// N-cells.
 pub fn report(dim: usize, darts: usize, tables: &[u16], work: &mut [u16]) -> ReportAnswer
-    ensures { λ r. ⌜ (r ≡ reportAnswer dim darts (now (tables .entry)) (now (work .entry))) × (now (work .exit) ≡ reportWork dim darts (now (tables .entry)) (now (work .entry))) ⌝ }
+    ensures { λ r. ⌜ (r ≡ reportAnswer dim darts (now (tables .entry)) (now (work .entry)))
+        × (now (work .exit) ≡ reportWork dim darts (now (tables .entry)) (now (work .entry))) ⌝ }
 {
     let first = walk::misfit(dim, darts, 0, tables.len(), work.len());
     if first != 0 {

@@ -1,4 +1,5 @@
--- `counts::cell_counts` meets its contract: after i turns the counts of the ranks below i are there, and the others are 0; that of rank N comes last. Assumes nothing.
+-- `counts::cell_counts` meets its contract: after i turns the counts of the ranks below i are there, and the others are 0;
+-- that of rank N comes last. Assumes nothing.
 use Prim.Native.Nat.{_*_, _-_, _≤_}
 use mathlib.Core.Path.{_≡_, refl, _∙_}
 use native.Mathlib.Omega.{arith}
@@ -64,4 +65,7 @@ returns c =
     (tallied-end (tallied-next (rw z at (l .inv .2)) _ (omega arith) (s .pre .3)) refl, l .inv .3)
 
 pub cell-counts-spec : {M : Type 1} → statement M
-cell-counts-spec = tie.close (tie.spec Inv-loop μ-loop loop-holds cells-requires mul-counts array-write-counts add-i loop-less loop-again mul-counts-2 array-write-counts-2 same-length returns)
+cell-counts-spec =
+    tie.close
+    (tie.spec Inv-loop μ-loop loop-holds cells-requires mul-counts array-write-counts add-i loop-less loop-again mul-counts-2 array-write-counts-2
+    same-length returns)

@@ -1,4 +1,5 @@
--- `counts::cells` meets its contract: each dart below d is marked, and the darts from which floods were started are those that lead their cells. Assumes nothing.
+-- `counts::cells` meets its contract: each dart below d is marked, and the darts from which floods were started are those that lead
+-- their cells. Assumes nothing.
 use Prim.Native.Nat.{_*_, _-_, _≤_}
 use mathlib.Core.Path.{_≡_, refl, _∙_}
 use mathlib.Core.Logic.{⊎-elim}
@@ -70,7 +71,8 @@ loop-again c =
     ⊎-elim
     (λ w.
     let F = flooded-but skip (l .before .all-but .ensures) (w .2 .ensures) in
-    rw (w .5, w .6, w .7) (w .2 .kept .1 .0 ∙ same, omega arith, swept-new v R (omega arith) (w .0 .taken) F, flooded-on (R .queue) (omega arith) (omega arith) F .past ∙ past))
+    let kept = flooded-on (R .queue) (omega arith) (omega arith) F .past ∙ past in
+    rw (w .5, w .6, w .7) (w .2 .kept .1 .0 ∙ same, omega arith, swept-new v R (omega arith) (w .0 .taken) F, kept))
     (λ w. rw (w .1, w .2, w .3) (same, omega arith, swept-old v R (omega arith) (w .0 .left), past))
     (c .if1 .came)
 
@@ -85,5 +87,5 @@ returns c =
 pub cells-spec : {M : Type 1} → statement M
 cells-spec =
     tie.close
-    (tie.spec Inv-loop μ-loop blank-requires all-but-requires loop-holds mul-if1 slice-read-if1 cast-flood flood-requires add-found add-d loop-less loop-again same-length
-    returns)
+    (tie.spec Inv-loop μ-loop blank-requires all-but-requires loop-holds mul-if1 slice-read-if1 cast-flood flood-requires add-found add-d loop-less
+    loop-again same-length returns)

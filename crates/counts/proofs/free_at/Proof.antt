@@ -70,4 +70,6 @@ returns c =
     rw z at (l .inv .2)
 
 pub free-at-spec : {M : Type 1} → statement M
-free-at-spec = tie.close (tie.spec Inv-loop μ-loop loop-holds place-requires mul-if1 shared-slice-read-if1 cast-if1 add-free add-d loop-less loop-again returns)
+free-at-spec =
+    tie.close
+    (tie.spec Inv-loop μ-loop loop-holds place-requires mul-if1 shared-slice-read-if1 cast-if1 add-free add-d loop-less loop-again returns)

@@ -1,4 +1,5 @@
--- `flood::flood` meets its contract: from the start's place up to the head each dart of the queue is spread from. A head below the queue's end is below n. Assumes nothing.
+-- `flood::flood` meets its contract: from the start's place up to the head each dart of the queue is spread from.
+-- A head below the queue's end is below n. Assumes nothing.
 use Prim.Native.Nat.{_-_}
 use mathlib.Core.Path.{_≡_, _∙_, refl}
 use native.Mathlib.Omega.{arith}

@@ -72,4 +72,7 @@ returns-2 : tie.Need-returns-2 Inv-loop μ-loop
 returns-2 c = sought-end (c .before .loop .inv) (omega arith)
 
 pub alike-at-spec : {M : Type 1} → statement M
-alike-at-spec = tie.close (tie.spec Inv-loop μ-loop loop-holds cast-link-at link-at-requires cast-x mul-if1 shared-slice-read-if1 mul-if1-2 shared-slice-read-if1-2 returns add-d loop-less loop-again returns-2)
+alike-at-spec =
+    tie.close
+    (tie.spec Inv-loop μ-loop loop-holds cast-link-at link-at-requires cast-x mul-if1 shared-slice-read-if1 mul-if1-2 shared-slice-read-if1-2
+    returns add-d loop-less loop-again returns-2)

@@ -52,4 +52,6 @@ returns c =
     (counted-parts _ _ _ _ _ _ (m .cell-counts .ensures .0) (f .free-pairs .ensures) two, blank-past _ _ _ _ (c .before .before .blank .ensures) past)
 
 pub counted-spec : {M : Type 1} → statement M
-counted-spec = tie.close (tie.spec add-size mul-size first-alike-requires cell-counts-requires free-pairs-requires mul-blank blank-requires same-length returns)
+counted-spec =
+    tie.close
+    (tie.spec add-size mul-size first-alike-requires cell-counts-requires free-pairs-requires mul-blank blank-requires same-length returns)

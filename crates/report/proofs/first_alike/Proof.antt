@@ -1,4 +1,5 @@
--- `report::first_alike` meets its contract: the search has come to the first link of a rank, and every link before it leads to the other class. Assumes nothing.
+-- `report::first_alike` meets its contract: the search has come to the first link of a rank, and every link before it leads to the other class.
+-- Assumes nothing.
 use Prim.Native.Nat.{_+_, _*_, _-_, _≤_}
 use mathlib.Core.Path.{_≡_}
 use native.Mathlib.Omega.{arith}
@@ -51,7 +52,8 @@ loop-again c =
     let a = entry (c .before .before .before) .args in
     let l = c .before .before .before .loop in
     let z : (l .rank + 1) * a .darts ≡ l .rank * a .darts + a .darts = omega arith in
-    (omega arith, rw z (sought-none (l .inv .1) (a .darts) _ (row-within (a .dim) (a .darts) (l .rank) (omega arith)) (c .before .alike-at .ensures) (omega arith)))
+    let row = row-within (a .dim) (a .darts) (l .rank) (omega arith) in
+    (omega arith, rw z (sought-none (l .inv .1) (a .darts) _ row (c .before .alike-at .ensures) (omega arith)))
 
 mul-result-2 : tie.Need-mul-result-2 Inv-loop μ-loop
 mul-result-2 c = omega arith
@@ -64,4 +66,6 @@ returns-2 c =
     sought-end (l .inv .1) (rw z (omega arith))
 
 pub first-alike-spec : {M : Type 1} → statement M
-first-alike-spec = tie.close (tie.spec Inv-loop μ-loop loop-holds alike-at-requires mul-result add-result returns add-rank loop-less loop-again mul-result-2 returns-2)
+first-alike-spec =
+    tie.close
+    (tie.spec Inv-loop μ-loop loop-holds alike-at-requires mul-result add-result returns add-rank loop-less loop-again mul-result-2 returns-2)

@@ -1,5 +1,5 @@
--- `report::report` meets its contract: sizes, tables and what is reached, each refusing in its turn as the verdict of the rules does; else each part of the answer is the
--- definition's. Assumes nothing.
+-- `report::report` meets its contract: sizes, tables and what is reached, each refusing in its turn as the verdict of the rules does;
+-- else each part of the answer is the definition's. Assumes nothing.
 use mathlib.Core.Path.{_≡_}
 use native.Mathlib.Omega.{arith}
 use lib.ListN.{length}
@@ -19,7 +19,8 @@ sized c = c .before .before .before
 tabled : (c : tie.Else2) → let a = entry (sized c .before) .args in Tabled (a .dim) (a .darts) (a .tables .now) (a .work .now)
 tabled c =
     let a = entry (sized c .before) .args in
-    report-tabled (a .dim) (a .darts) (a .tables .now) (a .work .now) (sized c .before .misfit .ensures) (sized c .if1 .left) (c .before .before .misbuilt .ensures) (c .if2 .left)
+    let m = sized c .before .misfit in
+    report-tabled (a .dim) (a .darts) (a .tables .now) (a .work .now) (m .ensures) (sized c .if1 .left) (c .before .before .misbuilt .ensures) (c .if2 .left)
 
 -- from the search for a dart with no mark back: what is reached was marked, after the tables
 abbrev spanned : tie.After-first-unnumbered → tie.After-span
@@ -53,7 +54,9 @@ returns-2 c =
     let b = c .before .before .before in
     let s = b .before in
     let a = entry (s .before) .args in
-    report-tables (a .dim) (a .darts) (a .tables .now) (a .work .now) (s .before .misfit .ensures) (s .if1 .left) (b .misbuilt .ensures) (c .refusal2 .ensures) (c .before .if2 .taken)
+    let k = s .before .misfit in
+    let e = c .refusal2 .ensures in
+    report-tables (a .dim) (a .darts) (a .tables .now) (a .work .now) (k .ensures) (s .if1 .left) (b .misbuilt .ensures) e (c .before .if2 .taken)
 
 span-requires : tie.Need-span-requires
 span-requires c κs = let T = tabled (c .before) in (T .limits, T .valid, T .room)
@@ -87,9 +90,9 @@ returns-3 c =
     let t = c .before .before .before .before .before in
     let f = t .before in
     let k = spanned f .span in
-    let past = k .ensures .1 in
-    report-unreached (tabled (passed (spanned f))) (k .ensures .0) (k .kept .1 .0) (f .first-unnumbered .ensures) (c .before .before .before .blank .ensures) past
-    (c .refusal3 .ensures) (t .if3 .taken)
+    let T = tabled (passed (spanned f)) in
+    let eu = c .before .before .before .blank .ensures in
+    report-unreached T (k .ensures .0) (k .kept .1 .0) (f .first-unnumbered .ensures) eu (k .ensures .1) (c .refusal3 .ensures) (t .if3 .taken)
 
 counted-requires : tie.Need-counted-requires
 counted-requires c κs =
@@ -113,5 +116,5 @@ returns-4 c =
 pub report-spec : {M : Type 1} → statement M
 report-spec =
     tie.close
-    (tie.spec misfit-requires refusal-requires returns misbuilt-requires refusal-requires-2 returns-2 span-requires first-unnumbered-requires mul-blank blank-requires
-    cast-refusal refusal-requires-3 same-length returns-3 counted-requires same-length-2 returns-4)
+    (tie.spec misfit-requires refusal-requires returns misbuilt-requires refusal-requires-2 returns-2 span-requires first-unnumbered-requires mul-blank
+    blank-requires cast-refusal refusal-requires-3 same-length returns-3 counted-requires same-length-2 returns-4)

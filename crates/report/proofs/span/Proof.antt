@@ -1,4 +1,5 @@
--- `report::span` meets its contract: after each turn the darts of the queue below the head have been crossed by aN; at the end that is the whole queue. Assumes nothing.
+-- `report::span` meets its contract: after each turn the darts of the queue below the head have been crossed by aN; at the end that is
+-- the whole queue. Assumes nothing.
 use Prim.Native.Nat.{_*_, _-_}
 use mathlib.Core.Path.{_≡_, refl, _∙_}
 use native.Mathlib.Omega.{arith}
@@ -41,7 +42,8 @@ flood-requires : tie.Need-flood-requires Inv-loop μ-loop
 flood-requires c κs =
     let b = blanked (c .before) in
     let p = entry b .pre in
-    (p .0, queue-blanked _ _ _ (omega arith) (b .blank .ensures), rw (c .before .all-but .ensures) (omega arith), orbit-inside (p .1) (omega arith), omega arith)
+    let Q = queue-blanked _ _ _ (omega arith) (b .blank .ensures) in
+    (p .0, Q, rw (c .before .all-but .ensures) (omega arith), orbit-inside (p .1) (omega arith), omega arith)
 
 loop-holds : tie.Need-loop-holds Inv-loop μ-loop
 loop-holds c =

@@ -1,10 +1,10 @@
--- `report::span_step` meets its contract: what is marked stays one part of each N-cell that it has, and the darts of the queue up to the head have been crossed by aN.
--- Assumes nothing.
+-- `report::span_step` meets its contract: what is marked stays one part of each N-cell that it has, and the darts of the queue
+-- up to the head have been crossed by aN. Assumes nothing.
 use mathlib.Core.Path.{refl}
 use native.Mathlib.Omega.{arith}
 use borrow.Author.Needs.{needs}
 use Rattle.flood.proofs.Orbits.{orbit-inside, flooded-but, flooded-on}
-use Rattle.report.proofs.Spans.{head-below, head-class, across-below, spun-old, spun-new}
+use Rattle.report.proofs.Spans.{link-below, head-below, head-class, spun-old, spun-new}
 use Rattle.report.proofs.span_step.Statement.{statement}
 use Rattle.report.proofs.span_step.Tie as tie
 
@@ -30,7 +30,8 @@ slice-read-if1 : tie.Need-slice-read-if1
 slice-read-if1 c =
     let k = c .before in
     let p = entry (k .before) .pre in
-    omega (arith, across-below (p .1) (p .2) (p .3) _ (k .before .queued .ensures) _ (k .link-at .ensures), p .3 .queue .room)
+    let h = head-below (p .1) (p .2) (p .3) _ (k .before .queued .ensures) in
+    omega (arith, link-below (p .1) (k .link-at .ensures) (omega arith) h, p .3 .queue .room)
 
 same-length : tie.Need-same-length
 same-length c = search needs
@@ -66,7 +67,8 @@ flood-requires : tie.Need-flood-requires
 flood-requires c κs =
     let k = c .before .before .before .before .before in
     let p = entry (k .before) .pre in
-    (p .0, p .3 .queue, rw (c .before .all-but .ensures) (omega arith), orbit-inside (p .1) (across-below (p .1) (p .2) (p .3) _ (k .before .queued .ensures) _ (k .link-at .ensures)), omega arith)
+    let h = link-below (p .1) (k .link-at .ensures) (omega arith) (head-below (p .1) (p .2) (p .3) _ (k .before .queued .ensures)) in
+    (p .0, p .3 .queue, rw (c .before .all-but .ensures) (omega arith), orbit-inside (p .1) h, omega arith)
 
 add-t22 : tie.Need-add-t22
 add-t22 c = search needs
@@ -84,11 +86,12 @@ returns-2 c =
     let ek = k .link-at .ensures in
     let u = c .before .before .before .before .before .before .before .if1 .left in
     let F = flooded-but (s .args .dim) (a .all-but .ensures) (c .before .before .before .flood .ensures) in
-    let past = flooded-on (p .3 .queue) (across-below (p .1) (p .2) (p .3) _ eq _ ek) (omega arith) F .past in
+    let h = link-below (p .1) ek (omega arith) (head-below (p .1) (p .2) (p .3) _ eq) in
+    let past = flooded-on (p .3 .queue) h (omega arith) F .past in
     (spun-new (p .1) (p .2) (p .3) _ eq _ ek _ u refl F, past)
 
 pub span-step-spec : {M : Type 1} → statement M
 span-step-spec =
     tie.close
-    (tie.spec queued-requires link-at-requires cast-if1 mul-if1 slice-read-if1 same-length returns cast-class mul-class slice-read-class sub-class all-but-requires
-    flood-requires add-t22 same-length-2 returns-2)
+    (tie.spec queued-requires link-at-requires cast-if1 mul-if1 slice-read-if1 same-length returns cast-class mul-class slice-read-class sub-class
+    all-but-requires flood-requires add-t22 same-length-2 returns-2)
