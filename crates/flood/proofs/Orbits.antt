@@ -94,3 +94,7 @@ module _ {keep : ℕ → Bool} {N n : ℕ} {t : List ℕ} {start class tail tail
           let (p, h, l, z, hx, mx) = found r in
           let (a, b) = rw z at (F .explored p h l i hi k) in
           new (Reached.onward i hi k r) a b
+
+  -- so it is in a valid map where what was marked is closed under the ranks kept and the start had no mark
+  pub flooded-new : Valid N n t → Explored keep N n t 0 tail w → getD w start 0 ≡ mark → Orbit keep N n t start tail tail' w'
+  flooded-new v S u = flooded-orbit (λ e r m. orbit-unmarked v Q S hs u r m)

@@ -35,6 +35,14 @@ kept-cases ranks i k = go (or-cases (ltb i (ranks .low)) (leb (ranks .high) i) k
     go (inl e) = inl (ltb-true i (ranks .low) e)
     go (inr e) = inr (leb-true (ranks .high) i e)
 
+-- two runs that leave no gap are all ranks
+pub kept-all : (ranks : Ranks) → ranks .high ≤ ranks .low → (i : ℕ) → kept ranks i ≡ true
+kept-all ranks h i = go (decLt i (ranks .low))
+  where
+    go : Dec (i < ranks .low) → kept ranks i ≡ true
+    go (yes l) = kept-low ranks i l
+    go (no l) = kept-high ranks i (omega arith)
+
 -- all ranks but one
 pub but-yes : (skip i : ℕ) → i ≢ skip → allBut skip i ≡ true
 unfolding allBut
@@ -67,9 +75,9 @@ kept-away j i (inr h) = kept-high (twoAway j) i (omega arith)
 pub away-kept : (j i : ℕ) → kept (twoAway j) i ≡ true → (i + 2 ≤ j) ⊎ (j + 2 ≤ i)
 away-kept j i k = go (kept-cases (twoAway j) i k)
   where
-    go : (i < j - 1) ⊎ (j + 2 ≤ i) → (i + 2 ≤ j) ⊎ (j + 2 ≤ i)
+    go : (i < twoAway j .low) ⊎ (twoAway j .high ≤ i) → (i + 2 ≤ j) ⊎ (j + 2 ≤ i)
     go (inl h) = inl (omega arith)
-    go (inr h) = inr h
+    go (inr h) = inr (omega arith)
 
 -- the ranks of one run
 pub between-yes : (from to i : ℕ) → from ≤ i → i < to → between from to i ≡ true

@@ -1,5 +1,5 @@
 // A flood over lent work room: all that links of a set of ranks reach from a dart is marked. The first n entries hold
-// each dart's class, 0 or 1, or the mark; the next n the queue: the darts marked so far, in the order of their marking.
+// each dart's class, 0 or 1, or the mark; the next n the queue: the darts marked so far, in order.
 use rules::Session;
 ghost use mathlib.Core.Path.{_≡_};
 ghost use Prim.Native.Nat.{_+_, _*_, _-_, _≤_, _<_};
