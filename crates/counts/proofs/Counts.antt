@@ -1,4 +1,5 @@
--- Laws of the report's counts, one turn of a loop at a time: a dart leads its cell if no flood before it came there. Rests on Floods and the rules' Orbits.
+-- Laws of the report's counts, one turn of a loop at a time: a dart leads its cell if no flood before it came there.
+-- Rests on the flood's Orbits and the rules' Orbits.
 use Prim.Native.Nat.{ℕ, zero, suc, _+_, _*_, _≤_, _<_}
 use mathlib.Core.Path.{_≡_, refl, ap, sym, _∙_}
 use mathlib.Core.Logic.{_≢_, _⊎_, inl, inr}

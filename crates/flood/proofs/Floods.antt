@@ -1,6 +1,6 @@
 -- Laws of the flood, for any ranks kept, one turn of a loop at a time. Rests on Sets and Queues.
 use Prim.Native.Nat.{ℕ, _+_, _-_, _≤_, _<_}
-use mathlib.Core.Path.{_≡_, refl, sym, _∙_}
+use mathlib.Core.Path.{_≡_, sym, _∙_}
 use mathlib.Core.Logic.{_⊎_, inl, inr}
 use mathlib.Core.Bool.{Bool, true, _||_}
 use mathlib.Core.List.{List}
@@ -12,7 +12,7 @@ use Rattle.rules.proofs.Lists.{or-cases, or-left, or-right}
 use Rattle.flood.specs.declared.Ranks.{Ranks}
 use Rattle.flood.specs.Flood.{kept, between, Marked, queued, enteredRoom, enteredTail, Queue, Extended, Linked, Traced, Around, Explored}
 use Rattle.flood.specs.Flood.{LinksInside, OrbitInside, SpreadFrom, Flooded}
-use Rattle.flood.proofs.Sets.{between-yes, between-none, between-only, between-next, between-end, kept-low, kept-high, kept-runs}
+use Rattle.flood.proofs.Sets.{between-yes, between-none, between-only, kept-runs}
 use Rattle.flood.proofs.Queues.{Entered, extended-refl, extended-marked, extended-trans, extended-class, extended-place, queue-parts, entry}
 
 -- links go on from a dart to another, more ranks keep them, and every class is 0 or 1

@@ -1,6 +1,6 @@
 -- What a flood leaves, in the words of the rules: the new darts of the queue are the orbit of its start. Rests on Sets, Floods and the rules' Orbits.
-use Prim.Native.Nat.{ℕ, _+_, _≤_, _<_}
-use mathlib.Core.Path.{_≡_, refl, ap, sym, subst, _∙_}
+use Prim.Native.Nat.{ℕ, _≤_, _<_}
+use mathlib.Core.Path.{_≡_, ap, subst, _∙_}
 use mathlib.Core.Logic.{_⊎_, inl, inr}
 use mathlib.Core.Bool.{Bool, true}
 use mathlib.Core.List.{List}
@@ -12,7 +12,7 @@ use Rattle.rules.proofs.Orbits.{valid-closed, reached-below, reached-sym}
 use Rattle.flood.specs.declared.Ranks.{Ranks}
 use Rattle.flood.specs.Flood.{kept, butOne, Marked, queued, Queue, Extended, Linked, Explored, OrbitInside, Flooded, Orbit}
 use Rattle.flood.proofs.Sets.{kept-but}
-use Rattle.flood.proofs.Queues.{extended-marked, extended-trans, queue-parts, entry}
+use Rattle.flood.proofs.Queues.{extended-marked, extended-trans, entry}
 use Rattle.flood.proofs.Floods.{linked-reached, explored-on}
 
 -- in a valid map all that is reached from a dart is a dart

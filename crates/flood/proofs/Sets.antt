@@ -1,12 +1,12 @@
 -- Laws of sets of ranks: what two runs keep, the sets that are used, and one run after another. Rests on the rules' Lists.
 use Prim.Native.Nat.{ℕ, _+_, _-_, _≤_, _<_}
-use mathlib.Core.Path.{_≡_, refl, sym, _∙_, fun-ext}
+use mathlib.Core.Path.{_≡_, refl, sym, fun-ext}
 use mathlib.Core.Logic.{_≢_, _⊎_, inl, inr}
-use mathlib.Core.Bool.{Bool, true, false, not, _&&_, _||_}
+use mathlib.Core.Bool.{Bool, true, false, not, _||_}
 use native.Mathlib.Omega.{arith}
 use native.Mathlib.Decide.{ℕ-discrete, decLt}
 use lib.Dec.{eqb, ltb, leb}
-use borrow.Author.Tests.{eqb-true, eqb-false, eq-eqb, ne-eqb, leb-true, le-leb, ltb-true, lt-ltb}
+use borrow.Author.Tests.{eq-eqb, ne-eqb, leb-true, le-leb, ltb-true, lt-ltb}
 use Rattle.rules.specs.Map.{allBut}
 use Rattle.rules.proofs.Lists.{and-left, and-right, both, or-cases, or-left, or-right, not-both}
 use Rattle.flood.specs.declared.Ranks.{Ranks}

@@ -1,5 +1,5 @@
 -- Laws of the report's answer: what each test of the code says of the verdict, and what the report then answers and leaves.
--- Rests on Spans, the walk's Verdicts and the rules' Check.
+-- Rests on the flood's Floods, the walk's Verdicts and the rules' Check.
 use Prim.Native.Nat.{ℕ, _*_, _≤_, _<_}
 use mathlib.Core.Path.{_≡_, refl, ap, sym, _∙_}
 use mathlib.Core.Logic.{_≢_}
@@ -42,9 +42,9 @@ pub counted-parts : (N n : ℕ) (t counts : List ℕ) (free : ℕ) (o : Bool) �
 unfolding countedOf
 counted-parts N n t counts free o ec ef eo = rw (ec, ef, eo)
 
-pub blank-past : (k : ℕ) (w u v : List ℕ) → v ≡ blank k u → drop k u ≡ drop k w → v ≡ blank k w
+pub blank-over : (k : ℕ) (w u v : List ℕ) → v ≡ blank k u → drop k u ≡ drop k w → v ≡ blank k w
 unfolding blank
-blank-past k w u v e p = e ∙ rw p
+blank-over k w u v e p = e ∙ rw p
 
 -- sizes and tables pass: what is left of the verdict is what is reached
 pub record Tabled (N n : ℕ) (t w : List ℕ) : Type 0 where
@@ -107,13 +107,13 @@ module _ {N n d top : ℕ} {t w u : List ℕ} (T : Tabled N n t w) (S : Spanned 
     unfolding refuseIf reportAnswer reportAnswerOf reportWork reportWorkAfter refusalOf
     report-unreached e h =
         let v : verdict N n 0 t (length w) ≡ Verdict.refused 9 d = T .left ∙ rw (← found, lt-ltb d n h) in
-        rw v ((e, blank-past (2 * n) w u u' eu past))
+        rw v ((e, blank-over (2 * n) w u u' eu past))
 
     pub report-counted : {r : ReportAnswer} → r ≡ countedOf N n t → n ≤ d → (r ≡ reportAnswer N n t w) × (u' ≡ reportWork N n t w)
     unfolding refuseIf reportAnswer reportAnswerOf reportWork reportWorkAfter countedOf
     report-counted e h =
         let v : verdict N n 0 t (length w) ≡ Verdict.fine = T .left ∙ rw (← found, le-ltb d n h) in
-        rw v ((e, blank-past (2 * n) w u u' eu past))
+        rw v ((e, blank-over (2 * n) w u u' eu past))
 
 -- a report with number 0 is of a map that passes every test
 pub reported : (N n : ℕ) (t w : List ℕ) (a : ReportAnswer) → a ≡ reportAnswer N n t w → a .number ≡ 0 → Passes N n 0 t (length w)

@@ -1,5 +1,5 @@
 -- Laws of the two classes: where all darts are reached from dart 0 each has one, by the number of links, and if any two classes do, these do.
--- Rests on Floods and the rules' Orbits and Cells.
+-- Rests on the flood's Floods and the rules' Orbits and Cells.
 use Prim.Native.Nat.{ℕ, zero, suc, _+_, _*_, _-_, _/_, _%_, _≤_, _<_}
 use mathlib.Core.Path.{_≡_, refl, ap, sym, _∙_}
 use mathlib.Core.Logic.{_≢_}

@@ -1,5 +1,4 @@
 -- `flood::spread` meets its contract: the two runs are the set. Assumes nothing.
-use mathlib.Core.Path.{sym}
 use native.Mathlib.Omega.{arith}
 use borrow.Author.Needs.{needs}
 use Rattle.flood.proofs.Sets.{kept-runs}

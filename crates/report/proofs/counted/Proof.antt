@@ -3,7 +3,7 @@ use Prim.Native.Nat.{_+_, _*_}
 use native.Mathlib.Omega.{arith}
 use borrow.Author.Needs.{needs}
 use Rattle.report.proofs.Classes.{classes-tell}
-use Rattle.report.proofs.Answers.{counted-parts, blank-past}
+use Rattle.report.proofs.Answers.{counted-parts, blank-over}
 use Rattle.report.proofs.counted.Statement.{statement}
 use Rattle.report.proofs.counted.Tie as tie
 
@@ -49,7 +49,7 @@ returns c =
     let size = (s .args .dim + 1) * s .args .darts in
     let two = classes-tell (p .1) (omega arith) (p .3) (p .4) _ size (omega arith) (sought m .first-alike .ensures) in
     let past = m .cell-counts .ensures .1 in
-    (counted-parts _ _ _ _ _ _ (m .cell-counts .ensures .0) (f .free-pairs .ensures) two, blank-past _ _ _ _ (c .before .before .blank .ensures) past)
+    (counted-parts _ _ _ _ _ _ (m .cell-counts .ensures .0) (f .free-pairs .ensures) two, blank-over _ _ _ _ (c .before .before .blank .ensures) past)
 
 pub counted-spec : {M : Type 1} → statement M
 counted-spec =

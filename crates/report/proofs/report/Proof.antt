@@ -1,8 +1,6 @@
 -- `report::report` meets its contract: sizes, tables and what is reached, each refusing in its turn as the verdict of the rules does;
 -- else each part of the answer is the definition's. Assumes nothing.
-use mathlib.Core.Path.{_≡_}
 use native.Mathlib.Omega.{arith}
-use lib.ListN.{length}
 use borrow.Author.Needs.{needs}
 use Rattle.report.proofs.Answers.{Tabled, report-sizes, report-limits, report-tables, report-tabled, report-marked, report-unreached, report-counted}
 use Rattle.report.proofs.report.Statement.{statement}
