@@ -1,5 +1,5 @@
 -- Laws of the report's answer: what each test of the code says of the verdict, and what the report then answers and leaves.
--- Rests on Spans, the walk's Verdicts and the rules' Check.
+-- Rests on the flood's Floods, the walk's Verdicts and the rules' Check.
 use Prim.Native.Nat.{ℕ, _*_, _≤_, _<_}
 use mathlib.Core.Path.{_≡_, refl, ap, sym, _∙_}
 use mathlib.Core.Logic.{_≢_}
@@ -20,78 +20,100 @@ use Rattle.rules.proofs.Lists.{not-both, first-before, getD-any, first-same}
 use Rattle.rules.proofs.Orbits.{Closed, valid-closed, reaches-reached, reached-reaches}
 use Rattle.rules.proofs.Check.{Case, Passes, refused-case, refused-some, fine-passes}
 use Rattle.walk.specs.Numbers.{numberless, misfitOf, misbuiltOf}
-use Rattle.walk.proofs.Verdicts.{check-sizes, check-limits, check-tables, check-valid, tabled-on}
+use Rattle.walk.proofs.Verdicts.{numbered-verdict, check-sizes, check-limits, check-tables, check-valid, tabled-on}
 use Rattle.report.specs.Answer.{refusalOf, countedOf}
-use Rattle.report.specs.Flood.{Spanned, AllMarked}
-use Rattle.report.proofs.Floods.{linked-reached}
+use Rattle.flood.proofs.Floods.{linked-reached}
+use Rattle.report.specs.Spans.{Spanned, AllMarked}
 
 -- a refusal that the check would give too
-refused-as : (N n : ℕ) (t w w' : List ℕ) (nr p : ℕ) → (record { number = nr; place = p } ≡ checkAnswer N n 0 t w) × (w' ≡ checkWork N n 0 t w) → nr ≢ 0 → (refusalOf nr p ≡ reportAnswer N n t w) × (w' ≡ reportWork N n t w)
+refused-as : (N n : ℕ) (t w w' : List ℕ) (nr p : ℕ) → (record { number = nr; place = p } ≡ checkAnswer N n 0 t w) × (w' ≡ checkWork N n 0 t w)
+    → nr ≢ 0 → (refusalOf nr p ≡ reportAnswer N n t w) × (w' ≡ reportWork N n t w)
 unfolding checkAnswer checkAnswerOf checkWork workAfter reportAnswer reportAnswerOf reportWork reportWorkAfter refusalOf
 refused-as N n t w w' nr p (e, f) h = rw f (go (verdict N n 0 t (length w)) e)
   where
-    go : (v : Verdict) → record { number = nr; place = p } ≡ checkAnswerOf v → (refusalOf nr p ≡ reportAnswerOf N n t v) × (workAfter N n 0 t w v ≡ reportWorkAfter n w v)
+    go : (v : Verdict) → record { number = nr; place = p } ≡ checkAnswerOf v
+        → (refusalOf nr p ≡ reportAnswerOf N n t v) × (workAfter N n 0 t w v ≡ reportWorkAfter n w v)
     go Verdict.fine e = absurd (h (ap (λ (x : CheckAnswer). x .number) e))
     go (Verdict.refused nr' p') e = (rw (ap (λ (x : CheckAnswer). x .number) e, ap (λ (x : CheckAnswer). x .place) e), refl)
 
 -- the parts of a counted answer, and the work room blanked after them
-pub counted-parts : (N n : ℕ) (t counts : List ℕ) (free : ℕ) (o : Bool) → counts ≡ cellCounts N n t → free ≡ freePairs N n t → o ≡ orientable N n t → record { number = 0; place = 0; cells = counts; free = free; orientable = o } ≡ countedOf N n t
+pub counted-parts : (N n : ℕ) (t counts : List ℕ) (free : ℕ) (o : Bool) → counts ≡ cellCounts N n t → free ≡ freePairs N n t
+    → o ≡ orientable N n t → record { number = 0; place = 0; cells = counts; free = free; orientable = o } ≡ countedOf N n t
 unfolding countedOf
 counted-parts N n t counts free o ec ef eo = rw (ec, ef, eo)
 
-pub blank-past : (k : ℕ) (w u v : List ℕ) → v ≡ blank k u → drop k u ≡ drop k w → v ≡ blank k w
+pub blank-over : (k : ℕ) (w u v : List ℕ) → v ≡ blank k u → drop k u ≡ drop k w → v ≡ blank k w
 unfolding blank
-blank-past k w u v e p = e ∙ rw p
+blank-over k w u v e p = e ∙ rw p
+
+-- sizes and tables pass: what is left of the verdict is what is reached
+pub record Tabled (N n : ℕ) (t w : List ℕ) : Type 0 where
+  pub limits : Limits N n t
+  pub room : 2 * n ≤ length w
+  pub some : 0 < n
+  pub valid : Valid N n t
+  pub left : verdict N n 0 t (length w) ≡ numbered-verdict N n 0 t
 
 -- what the code did, step by step: k is what it found of the sizes, a of the tables
-module _ (N n : ℕ) (t w : List ℕ) (k : ℕ) (ek : k ≡ misfitOf N n 0 (length t) (length w)) where
-  pub report-sizes : (r : ReportAnswer) → r ≡ refusalOf k 0 → k ≢ 0 → (r ≡ reportAnswer N n t w) × (w ≡ reportWork N n t w)
-  report-sizes r e h = rw e (refused-as N n t w w k 0 (check-sizes N n 0 t w k ek h) h)
+module _ (N n : ℕ) (t w : List ℕ) {k : ℕ} (ek : k ≡ misfitOf N n 0 (length t) (length w)) where
+  pub report-sizes : {r : ReportAnswer} → r ≡ refusalOf k 0 → k ≢ 0 → (r ≡ reportAnswer N n t w) × (w ≡ reportWork N n t w)
+  report-sizes e h = rw e (refused-as N n t w w k 0 (check-sizes N n 0 t w k ek h) h)
 
   module _ (z : k ≡ 0) where
-    pub report-limits : Limits N n t × (2 * n ≤ length w) × (0 < n)
-    report-limits = check-limits N n 0 t w k ek z
+    pub report-limits : Limits N n t
+    report-limits = check-limits N n 0 t w k ek z .0
 
-    module _ (a : CheckAnswer) (ea : a ≡ misbuiltOf N n t) where
-      pub report-tables : (r : ReportAnswer) → r ≡ refusalOf (a .number) (a .place) → a .number ≢ 0 → (r ≡ reportAnswer N n t w) × (w ≡ reportWork N n t w)
-      report-tables r e h = rw e (refused-as N n t w w (a .number) (a .place) (check-tables N n 0 t w k ek z a ea h) h)
+    module _ {a : CheckAnswer} (ea : a ≡ misbuiltOf N n t) where
+      pub report-tables : {r : ReportAnswer} → r ≡ refusalOf (a .number) (a .place) → a .number ≢ 0 → (r ≡ reportAnswer N n t w) × (w ≡ reportWork N n t w)
+      report-tables e h = rw e (refused-as N n t w w (a .number) (a .place) (check-tables N n 0 t w k ek z a ea h) h)
 
-      module _ (y : a .number ≡ 0) where
-        pub report-valid : Valid N n t
-        report-valid = check-valid N n 0 t w k ek z a ea y
+      pub report-tabled : a .number ≡ 0 → Tabled N n t w
+      report-tabled y = let (limits, room, some) = check-limits N n 0 t w k ek z in record {
+        limits = limits;
+        room = room;
+        some = some;
+        valid = check-valid N n 0 t w k ek z a ea y;
+        left = tabled-on N n 0 t w k ek z a ea y;
+      }
 
-        -- u is the work room where all that is reached is marked, d the first dart that is not
-        module _ (u : List ℕ) (top : ℕ) (S : Spanned N n t top u) (room : n ≤ length u) (d : ℕ) (ed : d ≡ first (numberless u) n) where
-          pub report-marked : n ≤ d → AllMarked n u
-          report-marked h i l e =
-              let q = first-before (numberless u) n i (omega arith) in
-              not-both (numberless u i) (eq-eqb (getD u i mark) mark (getD-any u i mark 0 (omega arith) ∙ e)) q
+-- u is the work room where all that is reached is marked, d the first dart that is not
+module _ {N n d top : ℕ} {t w u : List ℕ} (T : Tabled N n t w) (S : Spanned N n t top u) (same : length u ≡ length w) (ed : d ≡ first (numberless u) n) where
+  in-room : (i : ℕ) → i < n → getD u i mark ≡ getD u i 0
+  in-room i h = getD-any u i mark 0 (omega (arith, T .room))
 
-          found : d ≡ first (unreached N n t 0) n
-          unfolding unreached
-          found = ed ∙ first-same (numberless u) (unreached N n t 0) n (λ i l. rw (getD-any u i mark 0 (omega arith)) (same i l (ℕ-discrete (getD u i 0) mark) (reaches allRanks N n t 0 i) refl))
-            where
-              C : Closed N n t
-              C = valid-closed report-valid
+  pub report-marked : n ≤ d → AllMarked n u
+  report-marked h i l e =
+      let q = first-before (numberless u) n i (omega arith) in
+      not-both (numberless u i) (eq-eqb (getD u i mark) mark (in-room i l ∙ e)) q
 
-              same : (i : ℕ) → i < n → Dec (getD u i 0 ≡ mark) → (b : Bool) → reaches allRanks N n t 0 i ≡ b → eqb (getD u i 0) mark ≡ unreached N n t 0 i
-              same i l (yes e) false q = rw (q, eq-eqb (getD u i 0) mark e)
-              same i l (yes e) true q = absurd (S .reached i (reaches-reached allRanks N n t C 0 i (omega arith) l q) e)
-              same i l (no m) b q = rw (reached-reaches allRanks N n t C 0 i (omega arith) (linked-reached (S .linked i l m)), ne-eqb (getD u i 0) mark m)
+  found : d ≡ first (unreached N n t 0) n
+  unfolding unreached
+  found = ed ∙ first-same (numberless u) (unreached N n t 0) n (λ i l. rw (in-room i l) (each i l))
+    where
+      C : Closed N n t
+      C = valid-closed (T .valid)
 
-          -- u' is the work room at the end
-          module _ (u' : List ℕ) (eu : u' ≡ blank (2 * n) u) (past : drop (2 * n) u ≡ drop (2 * n) w) where
-            pub report-unreached : (r : ReportAnswer) → r ≡ refusalOf 9 d → d < n → (r ≡ reportAnswer N n t w) × (u' ≡ reportWork N n t w)
-            unfolding refuseIf reportAnswer reportAnswerOf reportWork reportWorkAfter refusalOf
-            report-unreached r e h =
-                let v : verdict N n 0 t (length w) ≡ Verdict.refused 9 d = tabled-on N n 0 t w k ek z a ea y ∙ rw (← found, lt-ltb d n h) in
-                rw v ((e, blank-past (2 * n) w u u' eu past))
+      alike : (i : ℕ) → i < n → Dec (getD u i 0 ≡ mark) → (b : Bool) → reaches allRanks N n t 0 i ≡ b → eqb (getD u i 0) mark ≡ unreached N n t 0 i
+      alike i l (yes e) false q = rw (q, eq-eqb (getD u i 0) mark e)
+      alike i l (yes e) true q = absurd (S .reached i (reaches-reached allRanks N n t C 0 i (T .some) l q) e)
+      alike i l (no m) b q = rw (reached-reaches allRanks N n t C 0 i (T .some) (linked-reached (S .linked i l m)), ne-eqb (getD u i 0) mark m)
 
-            pub report-counted : (r : ReportAnswer) → r ≡ countedOf N n t → n ≤ d → (r ≡ reportAnswer N n t w) × (u' ≡ reportWork N n t w)
-            unfolding refuseIf reportAnswer reportAnswerOf reportWork reportWorkAfter countedOf
-            report-counted r e h =
-                let v : verdict N n 0 t (length w) ≡ Verdict.fine = tabled-on N n 0 t w k ek z a ea y ∙ rw (← found, le-ltb d n h) in
-                rw v ((e, blank-past (2 * n) w u u' eu past))
+      each : (i : ℕ) → i < n → eqb (getD u i 0) mark ≡ unreached N n t 0 i
+      each i l = alike i l (ℕ-discrete (getD u i 0) mark) (reaches allRanks N n t 0 i) refl
+
+  -- u' is the work room at the end
+  module _ {u' : List ℕ} (eu : u' ≡ blank (2 * n) u) (past : drop (2 * n) u ≡ drop (2 * n) w) where
+    pub report-unreached : {r : ReportAnswer} → r ≡ refusalOf 9 d → d < n → (r ≡ reportAnswer N n t w) × (u' ≡ reportWork N n t w)
+    unfolding refuseIf reportAnswer reportAnswerOf reportWork reportWorkAfter refusalOf
+    report-unreached e h =
+        let v : verdict N n 0 t (length w) ≡ Verdict.refused 9 d = T .left ∙ rw (← found, lt-ltb d n h) in
+        rw v ((e, blank-over (2 * n) w u u' eu past))
+
+    pub report-counted : {r : ReportAnswer} → r ≡ countedOf N n t → n ≤ d → (r ≡ reportAnswer N n t w) × (u' ≡ reportWork N n t w)
+    unfolding refuseIf reportAnswer reportAnswerOf reportWork reportWorkAfter countedOf
+    report-counted e h =
+        let v : verdict N n 0 t (length w) ≡ Verdict.fine = T .left ∙ rw (← found, le-ltb d n h) in
+        rw v ((e, blank-over (2 * n) w u u' eu past))
 
 -- a report with number 0 is of a map that passes every test
 pub reported : (N n : ℕ) (t w : List ℕ) (a : ReportAnswer) → a ≡ reportAnswer N n t w → a .number ≡ 0 → Passes N n 0 t (length w)

@@ -1,12 +1,11 @@
 -- Laws of the two classes: where all darts are reached from dart 0 each has one, by the number of links, and if any two classes do, these do.
--- Rests on Floods and the rules' Orbits and Cells.
+-- Rests on the flood's Floods and the rules' Orbits and Cells.
 use Prim.Native.Nat.{ℕ, zero, suc, _+_, _*_, _-_, _/_, _%_, _≤_, _<_}
 use mathlib.Core.Path.{_≡_, refl, ap, sym, _∙_}
 use mathlib.Core.Logic.{_≢_}
 use mathlib.Core.Bool.{Bool, true, false, not}
 use mathlib.Core.List.{List}
 use native.Mathlib.Omega.{arith}
-use native.Mathlib.Nat.{mul-le-mul}
 use native.Mathlib.Decide.{ℕ-discrete}
 use lib.ListN.{getD}
 use lib.Dec.{eqb}
@@ -18,8 +17,10 @@ use Rattle.rules.proofs.Lists.{Sought, sought-start, first-le, first-passes, fi
 use Rattle.rules.proofs.Places.{nth-rank, nth-dart, nth-below, rank-nth, dart-nth}
 use Rattle.rules.proofs.Orbits.{valid-closed, reached-below}
 use Rattle.rules.proofs.Cells.{Orientable, orientable-sound, orientable-complete}
-use Rattle.report.specs.Flood.{Linked, Spanned, AllMarked, alike}
-use Rattle.report.proofs.Floods.{linked-two, linked-reached}
+use Rattle.flood.specs.Flood.{Linked}
+use Rattle.flood.proofs.Floods.{linked-two, linked-reached}
+use Rattle.report.specs.Spans.{Spanned, AllMarked}
+use Rattle.report.specs.Tests.{alike}
 
 -- the class that a dart has by the number of links from a dart of class b
 turn : ℕ → Bool → Bool
@@ -58,18 +59,18 @@ module _ (N n : ℕ) (t w : List ℕ) (i d x : ℕ) (hd : d < n) (e : x ≡ link
   pub alike-no : getD w d 0 ≢ getD w x 0 → alike N n t w (i * n + d) ≡ false
   alike-no h = alike-test ∙ ne-eqb (getD w d 0) (getD w x 0) h
 
--- a search by ranks starts at the first link, and the darts of one rank are among the links
+-- a search by ranks starts at the first link
 pub rows-start : (f : ℕ → Bool) (k n : ℕ) → Sought f k (0 * n)
 rows-start f k n = let z : 0 * n ≡ 0 = omega arith in rw z (sought-start f k)
 
-pub row-within : (N n i : ℕ) → i ≤ N → i * n + n ≤ size N n
-row-within N n i h = omega (arith, mul-le-mul {n₁ = suc i} {m₁ = n} {n₂ = suc N} {m₂ = n} (omega arith) (omega arith))
-
 -- any classes that do agree with the numbers of links from a dart of class 0
-linked-class : {keep : ℕ → Bool} {N n : ℕ} {t : List ℕ} {s d m : ℕ} (v : Valid N n t) (O : Orientable N n t) → s < n → Linked keep N n t s 0 d m → O .class d ≡ turn m (O .class s)
+linked-class : {keep : ℕ → Bool} {N n : ℕ} {t : List ℕ} {s d m : ℕ} (v : Valid N n t) (O : Orientable N n t) → s < n
+    → Linked keep N n t s 0 d m → O .class d ≡ turn m (O .class s)
 unfolding turn
 linked-class v O h Linked.here = refl
-linked-class {s = s} v O h (Linked.onward {e} {m} i hi k r) = O .other i e hi (reached-below (valid-closed v) h (linked-reached r)) ∙ (ap not (linked-class v O h r) ∙ sym (turn-next m (O .class s) (linked-two (omega arith) r)))
+linked-class {s = s} v O h (Linked.onward {e} {m} i hi k r) =
+    let below = reached-below (valid-closed v) h (linked-reached r) in
+    O .other i e hi below ∙ (ap not (linked-class v O h r) ∙ sym (turn-next m (O .class s) (linked-two (omega arith) r)))
 
 -- every dart has a class
 module _ {N n top : ℕ} {t w : List ℕ} (v : Valid N n t) (h1 : 1 ≤ n) (S : Spanned N n t top w) (all : AllMarked n w) where
@@ -85,7 +86,9 @@ module _ {N n top : ℕ} {t w : List ℕ} (v : Valid N n t) (h1 : 1 ≤ n) (S : 
       other i d hi hd =
           let a = first-before (alike N n t w) (size N n) (i * n + d) (omega (arith, nth-below N n i d hi hd)) in
           let b = rw (rank-nth n i d hd, dart-nth n i d hd) at a in
-          other-one (getD w d 0) (getD w (link N n t i d) 0) (linked-two (omega arith) (linked-all d hd)) (linked-two (omega arith) (linked-all (link N n t i d) (v .inside i d hi hd))) (eqb-false (getD w d 0) (getD w (link N n t i d) 0) b)
+          let two = linked-two (omega arith) (linked-all d hd) in
+          let too = linked-two (omega arith) (linked-all (link N n t i d) (v .inside i d hi hd)) in
+          other-one (getD w d 0) (getD w (link N n t i d) 0) two too (eqb-false (getD w d 0) (getD w (link N n t i d) 0) b)
 
   -- a link stays within a class: no classes do
   alike-refutes : first (alike N n t w) (size N n) < size N n → Orientable N n t → ⊥

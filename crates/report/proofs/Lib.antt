@@ -1,5 +1,3 @@
-pub mod Floods
 pub mod Spans
-pub mod Counts
 pub mod Classes
 pub mod Answers

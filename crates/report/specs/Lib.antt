@@ -1,2 +1,3 @@
-pub mod Flood
+pub mod Spans
+pub mod Tests
 pub mod Answer

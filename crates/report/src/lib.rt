@@ -1,15 +1,15 @@
-// The cell report: one flood over lent work room serves refusal 9, the cells of each rank and the two classes.
-// The first n entries hold each dart's class, 0 or 1, or the mark; the next n the darts marked so far, in the order in which they were.
+// The cell report: floods over lent work room serve refusal 9, the cells of each rank and the two classes.
 use rules::ReportAnswer;
 use rules::Session;
 ghost use mathlib.Core.Path.{_≡_};
-ghost use Prim.Native.Nat.{_+_, _*_, _-_, _≤_, _<_};
-ghost use lib.ListN.{length, getD, drop};
-ghost use Rattle.rules.specs.Lists.{countBelow, first};
-ghost use Rattle.rules.specs.Map.{Limits, Valid, size, link, blank, allBut};
-ghost use Rattle.rules.specs.Report.{cellCounts, freePairs, reportAnswer, reportWork};
+ghost use Prim.Native.Nat.{_+_, _*_, _≤_, _<_};
+ghost use lib.ListN.{length, drop};
+ghost use Rattle.rules.specs.Lists.{first};
+ghost use Rattle.rules.specs.Map.{Limits, Valid, size, blank};
+ghost use Rattle.rules.specs.Report.{reportAnswer, reportWork};
 ghost use Rattle.report.specs.Answer.{refusalOf, countedOf};
-ghost use Rattle.report.specs.Flood.{enteredRoom, enteredTail, Queue, between, Around, Grown, Flooded, Spun, Spanned, AllMarked, isFree, alike};
+ghost use Rattle.report.specs.Spans.{Spun, Spanned, AllMarked};
+ghost use Rattle.report.specs.Tests.{alike};
 
 // Where the marking of all that is reached from dart 0 stands: the queue's length and how many N-cells are marked.
 pub struct Spanning {
@@ -17,182 +17,12 @@ pub struct Spanning {
     pub cells: u32,
 }
 
-// A dart that has no mark gets its class and enters the queue. The answer is the queue's length.
-pub fn enter(work: &mut [u16], darts: usize, tail: usize, dart: u16, class: u16) -> usize
-    requires { ⌜ (darts ≤ 4096) × Queue darts tail (now work) × (dart < darts) ⌝ }
-    ensures { λ r. ⌜ (r ≡ enteredTail (now (work .entry)) tail dart) × (now (work .exit) ≡ enteredRoom darts (now (work .entry)) tail dart class) ⌝ }
-{
-    let d = dart as usize;
-    if work[d] != Session::NO_LINK {
-        return tail;
-    }
-    work[d] = class;
-    work[darts + tail] = dart;
-    tail + 1
-}
-
-// The link of one rank is followed from a dart; where it leads gets a class.
-pub fn follow(
-    tables: &[u16],
-    work: &mut [u16],
-    dim: usize,
-    darts: usize,
-    rank: usize,
-    tail: usize,
-    dart: u16,
-    class: u16,
-) -> usize
-    requires { ⌜ Limits dim darts (now tables) × Valid dim darts (now tables) × Queue darts tail (now work) × (rank ≤ dim) × (dart < darts) ⌝ }
-    ensures { λ r. ⌜ (r ≡ enteredTail (now (work .entry)) tail (link dim darts (now (tables .entry)) rank dart)) × (now (work .exit) ≡ enteredRoom darts (now (work .entry)) tail (link dim darts (now (tables .entry)) rank dart) class) ⌝ }
-{
-    let x = tables::link_at(tables, dim, darts, rank, dart);
-    enter(work, darts, tail, x, class)
-}
-
-// The links of the ranks from one up to another are followed from a dart; the class is the other one than its own.
-pub fn spread_part(
-    tables: &[u16],
-    work: &mut [u16],
-    dim: usize,
-    darts: usize,
-    from: usize,
-    to: usize,
-    tail: usize,
-    dart: u16,
-    class: u16,
-) -> usize
-    requires { ⌜ Limits dim darts (now tables) × Valid dim darts (now tables) × Queue darts tail (now work) × (to ≤ dim + 1) × (dart < darts) × (getD (now work) dart 0 < 2) × (class ≡ 1 - getD (now work) dart 0) ⌝ }
-    ensures { λ r. ⌜ Grown (between from to) dim darts (now (tables .entry)) tail r (now (work .entry)) (now (work .exit)) × Around (between from to) dim darts (now (tables .entry)) dart (now (work .exit)) ⌝ }
-{
-    let mut end = tail;
-    let mut i = from;
-    while i < to {
-        end = follow(tables, work, dim, darts, i, end, dart, class);
-        i += 1;
-    }
-    end
-}
-
-// The links of all ranks but one are followed from a dart: in two parts, so that no turn of a loop asks for the rank left out.
-pub fn spread(
-    tables: &[u16],
-    work: &mut [u16],
-    dim: usize,
-    darts: usize,
-    skip: usize,
-    tail: usize,
-    dart: u16,
-) -> usize
-    requires { ⌜ Limits dim darts (now tables) × Valid dim darts (now tables) × Queue darts tail (now work) × (skip ≤ dim) × (dart < darts) × (getD (now work) dart 0 < 2) ⌝ }
-    ensures { λ r. ⌜ Grown (allBut skip) dim darts (now (tables .entry)) tail r (now (work .entry)) (now (work .exit)) × Around (allBut skip) dim darts (now (tables .entry)) dart (now (work .exit)) ⌝ }
-{
-    let class = 1 - work[dart as usize];
-    let end = spread_part(tables, work, dim, darts, 0, skip, tail, dart, class);
-    spread_part(
-        tables,
-        work,
-        dim,
-        darts,
-        skip + 1,
-        dim + 1,
-        end,
-        dart,
-        class,
-    )
-}
-
-// All that is reached from a dart is marked; the dart gets a class, and each link leads to the other one.
-pub fn flood(
-    tables: &[u16],
-    work: &mut [u16],
-    dim: usize,
-    darts: usize,
-    skip: usize,
-    tail: usize,
-    dart: u16,
-    class: u16,
-) -> usize
-    requires { ⌜ Limits dim darts (now tables) × Valid dim darts (now tables) × Queue darts tail (now work) × (skip ≤ dim) × (dart < darts) × (class < 2) ⌝ }
-    ensures { λ r. ⌜ Flooded (allBut skip) dim darts (now (tables .entry)) dart class tail r (now (work .entry)) (now (work .exit)) ⌝ }
-{
-    let mut end = enter(work, darts, tail, dart, class);
-    let mut head = tail;
-    while head < end {
-        let next = work[darts + head];
-        end = spread(tables, work, dim, darts, skip, end, next);
-        head += 1;
-    }
-    end
-}
-
-// The number of cells of a rank: a flood from each dart that none before it reached.
-pub fn cells(tables: &[u16], work: &mut [u16], dim: usize, darts: usize, skip: usize) -> u32
-    requires { ⌜ Limits dim darts (now tables) × Valid dim darts (now tables) × (2 * darts ≤ length (now work)) × (skip ≤ dim) ⌝ }
-    ensures { λ r. ⌜ (r ≡ Rattle.rules.specs.Report.cells dim darts (now (tables .entry)) skip) × (drop (2 * darts) (now (work .exit)) ≡ drop (2 * darts) (now (work .entry))) ⌝ }
-{
-    tables::blank(work, darts);
-    let mut found: u32 = 0;
-    let mut tail = 0;
-    let mut d = 0;
-    while d < darts {
-        if work[d] == Session::NO_LINK {
-            tail = flood(tables, work, dim, darts, skip, tail, d as u16, 0);
-            found += 1;
-        }
-        d += 1;
-    }
-    found
-}
-
-// The number of cells of each rank; past N it is 0. That of rank N is given.
-pub fn cell_counts(tables: &[u16], work: &mut [u16], dim: usize, darts: usize, top: u32) -> [u32; 7]
-    requires { ⌜ Limits dim darts (now tables) × Valid dim darts (now tables) × (2 * darts ≤ length (now work)) × (top ≡ Rattle.rules.specs.Report.cells dim darts (now tables) dim) ⌝ }
-    ensures { λ r. ⌜ (r ≡ cellCounts dim darts (now (tables .entry))) × (drop (2 * darts) (now (work .exit)) ≡ drop (2 * darts) (now (work .entry))) ⌝ }
-{
-    let mut counts = [0u32; 7];
-    let mut i = 0;
-    while i < dim {
-        counts[i] = cells(tables, work, dim, darts, i);
-        i += 1;
-    }
-    counts[dim] = top;
-    counts
-}
-
-// The number of free pairs of one rank. A count of 16 bits and no way out of the loop let the compiler take several darts at a time.
-pub fn free_at(tables: &[u16], dim: usize, darts: usize, rank: usize) -> u16
-    requires { ⌜ Limits dim darts (now tables) × (rank ≤ dim) ⌝ }
-    ensures { λ r. ⌜ r ≡ countBelow darts (λ d. isFree dim darts (now (tables .entry)) (rank * darts + d)) ⌝ }
-{
-    let mut free: u16 = 0;
-    let mut d = 0;
-    while d < darts {
-        if tables[tables::place(dim, darts, rank, d)] == d as u16 {
-            free += 1;
-        }
-        d += 1;
-    }
-    free
-}
-
-// The number of free (rank, dart) pairs.
-pub fn free_pairs(tables: &[u16], dim: usize, darts: usize) -> u32
-    requires { ⌜ Limits dim darts (now tables) ⌝ }
-    ensures { λ r. ⌜ r ≡ freePairs dim darts (now (tables .entry)) ⌝ }
-{
-    let mut free: u32 = 0;
-    let mut rank = 0;
-    while rank <= dim {
-        free += free_at(tables, dim, darts, rank) as u32;
-        rank += 1;
-    }
-    free
-}
-
 // The first dart whose link of one rank stays within a class, or n.
 pub fn alike_at(tables: &[u16], work: &[u16], dim: usize, darts: usize, rank: usize) -> usize
-    requires { ⌜ Limits dim darts (now tables) × Valid dim darts (now tables) × (darts ≤ length (now work)) × (rank ≤ dim) ⌝ }
-    ensures { λ r. ⌜ r ≡ first (λ d. alike dim darts (now (tables .entry)) (now (work .entry)) (rank * darts + d)) darts ⌝ }
+    requires { ⌜ Limits dim darts (now tables) × Valid dim darts (now tables) × (darts ≤ length (now work))
+        × (rank ≤ dim) ⌝ }
+    ensures { λ r. ⌜ r
+        ≡ first (λ d. alike dim darts (now (tables .entry)) (now (work .entry)) (rank * darts + d)) darts ⌝ }
 {
     let mut d = 0;
     while d < darts {
@@ -221,7 +51,8 @@ pub fn first_alike(tables: &[u16], work: &[u16], dim: usize, darts: usize) -> us
     rank * darts
 }
 
-// The dart of the queue at `head`: where its aN has no mark, an N-cell begins there, and a flood by all other ranks marks it.
+// The dart of the queue at `head`: where its aN has no mark, an N-cell begins there, and a flood by all other ranks
+// marks it.
 pub fn span_step(
     tables: &[u16],
     work: &mut [u16],
@@ -230,29 +61,35 @@ pub fn span_step(
     head: usize,
     s: Spanning,
 ) -> Spanning
-    requires { ⌜ Limits dim darts (now tables) × Valid dim darts (now tables) × (head < s .tail) × Spun dim darts (now tables) head (s .tail) (s .cells) (now work) ⌝ }
-    ensures { λ r. ⌜ Spun dim darts (now (tables .entry)) (head + 1) (r .tail) (r .cells) (now (work .exit)) × (drop (2 * darts) (now (work .exit)) ≡ drop (2 * darts) (now (work .entry))) ⌝ }
+    requires { ⌜ Limits dim darts (now tables) × Valid dim darts (now tables) × (head < s .tail)
+        × Spun dim darts (now tables) head (s .tail) (s .cells) (now work) ⌝ }
+    ensures { λ r. ⌜ Spun dim darts (now (tables .entry)) (head + 1) (r .tail) (r .cells) (now (work .exit))
+        × (drop (2 * darts) (now (work .exit)) ≡ drop (2 * darts) (now (work .entry))) ⌝ }
 {
-    let d = work[darts + head];
+    let d = flood::queued(work, darts, head);
     let x = tables::link_at(tables, dim, darts, dim, d);
     if work[x as usize] != Session::NO_LINK {
         return s;
     }
     let class = 1 - work[d as usize];
-    let tail = flood(tables, work, dim, darts, dim, s.tail, x, class);
+    let ranks = flood::all_but(dim);
+    let tail = flood::flood(tables, work, dim, darts, ranks, s.tail, x, class);
     Spanning {
         tail,
         cells: s.cells + 1,
     }
 }
 
-// All that is reached from dart 0 is marked, one N-cell after another; a class says by how many links. The answer is the number of those N-cells.
+// All that is reached from dart 0 is marked, one N-cell after another; a class says by how many links. The answer is
+// the number of those N-cells.
 pub fn span(tables: &[u16], work: &mut [u16], dim: usize, darts: usize) -> u32
     requires { ⌜ Limits dim darts (now tables) × Valid dim darts (now tables) × (2 * darts ≤ length (now work)) ⌝ }
-    ensures { λ r. ⌜ Spanned dim darts (now (tables .entry)) r (now (work .exit)) × (drop (2 * darts) (now (work .exit)) ≡ drop (2 * darts) (now (work .entry))) ⌝ }
+    ensures { λ r. ⌜ Spanned dim darts (now (tables .entry)) r (now (work .exit))
+        × (drop (2 * darts) (now (work .exit)) ≡ drop (2 * darts) (now (work .entry))) ⌝ }
 {
     tables::blank(work, darts);
-    let tail = flood(tables, work, dim, darts, dim, 0, 0, 0);
+    let ranks = flood::all_but(dim);
+    let tail = flood::flood(tables, work, dim, darts, ranks, 0, 0, 0);
     let mut s = Spanning { tail, cells: 1 };
     let mut head = 0;
     while head < s.tail {
@@ -275,15 +112,18 @@ pub fn refusal(number: u32, place: u32) -> ReportAnswer
     }
 }
 
-// The answer for a connected map. If any two classes do, those by the number of links from dart 0 do, so the first link that stays within a class tells.
+// The answer for a connected map. If any two classes do, those by the number of links from dart 0 do, so the first
+// link that stays within a class tells.
 pub fn counted(tables: &[u16], work: &mut [u16], dim: usize, darts: usize, top: u32) -> ReportAnswer
-    requires { ⌜ Limits dim darts (now tables) × Valid dim darts (now tables) × (2 * darts ≤ length (now work)) × Spanned dim darts (now tables) top (now work) × AllMarked darts (now work) ⌝ }
-    ensures { λ r. ⌜ (r ≡ countedOf dim darts (now (tables .entry))) × (now (work .exit) ≡ blank (2 * darts) (now (work .entry))) ⌝ }
+    requires { ⌜ Limits dim darts (now tables) × Valid dim darts (now tables) × (2 * darts ≤ length (now work))
+        × Spanned dim darts (now tables) top (now work) × AllMarked darts (now work) ⌝ }
+    ensures { λ r. ⌜ (r ≡ countedOf dim darts (now (tables .entry)))
+        × (now (work .exit) ≡ blank (2 * darts) (now (work .entry))) ⌝ }
 {
     let size = (dim + 1) * darts;
     let orientable = first_alike(tables, work, dim, darts) == size;
-    let cells = cell_counts(tables, work, dim, darts, top);
-    let free = free_pairs(tables, dim, darts);
+    let cells = counts::cell_counts(tables, work, dim, darts, top);
+    let free = counts::free_pairs(tables, dim, darts);
     tables::blank(work, 2 * darts);
     ReportAnswer {
         number: 0,
@@ -294,9 +134,11 @@ pub fn counted(tables: &[u16], work: &mut [u16], dim: usize, darts: usize, top: 
     }
 }
 
-// The cell report of posted tables. What is reached from dart 0 serves refusal 9, the two classes and the number of N-cells.
+// The cell report of posted tables. What is reached from dart 0 serves refusal 9, the two classes and the number of
+// N-cells.
 pub fn report(dim: usize, darts: usize, tables: &[u16], work: &mut [u16]) -> ReportAnswer
-    ensures { λ r. ⌜ (r ≡ reportAnswer dim darts (now (tables .entry)) (now (work .entry))) × (now (work .exit) ≡ reportWork dim darts (now (tables .entry)) (now (work .entry))) ⌝ }
+    ensures { λ r. ⌜ (r ≡ reportAnswer dim darts (now (tables .entry)) (now (work .entry)))
+        × (now (work .exit) ≡ reportWork dim darts (now (tables .entry)) (now (work .entry))) ⌝ }
 {
     let first = walk::misfit(dim, darts, 0, tables.len(), work.len());
     if first != 0 {

@@ -3,9 +3,16 @@ use Prim.Native.Nat.{_+_, _*_}
 use native.Mathlib.Omega.{arith}
 use borrow.Author.Needs.{needs}
 use Rattle.report.proofs.Classes.{classes-tell}
-use Rattle.report.proofs.Answers.{counted-parts, blank-past}
+use Rattle.report.proofs.Answers.{counted-parts, blank-over}
 use Rattle.report.proofs.counted.Statement.{statement}
 use Rattle.report.proofs.counted.Tie as tie
+
+-- from the cells back: the search of the classes, the entry
+abbrev sought : tie.After-cell-counts → tie.After-first-alike
+sought c = c .before .before
+
+abbrev entry : tie.After-first-alike → tie.Start
+entry c = c .before .before .before .before
 
 add-size : tie.Need-add-size
 add-size c = search needs
@@ -18,7 +25,7 @@ first-alike-requires c κs = search needs
 
 cell-counts-requires : tie.Need-cell-counts-requires
 cell-counts-requires c κs =
-    let p = c .before .before .before .before .before .pre in
+    let p = entry (c .before) .pre in
     (p .0, p .1, omega arith, p .3 .counted (p .4))
 
 free-pairs-requires : tie.Need-free-pairs-requires
@@ -35,12 +42,16 @@ same-length c = search needs
 
 returns : tie.Need-returns
 returns c =
-    let s = c .before .before .before .before .before .before .before .before .before .before .before .before .before in
+    let f = c .before .before .before .before in
+    let m = f .before .before .before in
+    let s = entry (sought m) in
     let p = s .pre in
-    let m = c .before .before .before .before .before .before .before .cell-counts in (
-      counted-parts _ _ _ _ _ _ (m .ensures .0) (c .before .before .before .before .free-pairs .ensures) (classes-tell (p .1) (omega arith) (p .3) (p .4) _ ((s .args .dim + 1) * s .args .darts) (omega arith) (c .before .before .before .before .before .before .before .before .before .first-alike .ensures)),
-      blank-past _ _ _ _ (c .before .before .blank .ensures) (m .ensures .1),
-    )
+    let size = (s .args .dim + 1) * s .args .darts in
+    let two = classes-tell (p .1) (omega arith) (p .3) (p .4) _ size (omega arith) (sought m .first-alike .ensures) in
+    let past = m .cell-counts .ensures .1 in
+    (counted-parts _ _ _ _ _ _ (m .cell-counts .ensures .0) (f .free-pairs .ensures) two, blank-over _ _ _ _ (c .before .before .blank .ensures) past)
 
 pub counted-spec : {M : Type 1} → statement M
-counted-spec = tie.close (tie.spec add-size mul-size first-alike-requires cell-counts-requires free-pairs-requires mul-blank blank-requires same-length returns)
+counted-spec =
+    tie.close
+    (tie.spec add-size mul-size first-alike-requires cell-counts-requires free-pairs-requires mul-blank blank-requires same-length returns)

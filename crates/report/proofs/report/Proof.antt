@@ -1,9 +1,31 @@
--- `report::report` meets its contract: sizes, tables and what is reached, each refusing in its turn as the verdict of the rules does; else each part of the answer is the definition's. Assumes nothing.
+-- `report::report` meets its contract: sizes, tables and what is reached, each refusing in its turn as the verdict of the rules does;
+-- else each part of the answer is the definition's. Assumes nothing.
 use native.Mathlib.Omega.{arith}
 use borrow.Author.Needs.{needs}
-use Rattle.report.proofs.Answers.{report-sizes, report-limits, report-tables, report-valid, report-marked, report-unreached, report-counted}
+use Rattle.report.proofs.Answers.{Tabled, report-sizes, report-limits, report-tables, report-tabled, report-marked, report-unreached, report-counted}
 use Rattle.report.proofs.report.Statement.{statement}
 use Rattle.report.proofs.report.Tie as tie
+
+-- the entry, seen from after the first test
+abbrev entry : tie.After-misfit → tie.Start
+entry c = c .before .before .before
+
+-- sizes and tables have passed
+abbrev sized : tie.Else2 → tie.Else1
+sized c = c .before .before .before
+
+tabled : (c : tie.Else2) → let a = entry (sized c .before) .args in Tabled (a .dim) (a .darts) (a .tables .now) (a .work .now)
+tabled c =
+    let a = entry (sized c .before) .args in
+    let m = sized c .before .misfit in
+    report-tabled (a .dim) (a .darts) (a .tables .now) (a .work .now) (m .ensures) (sized c .if1 .left) (c .before .before .misbuilt .ensures) (c .if2 .left)
+
+-- from the search for a dart with no mark back: what is reached was marked, after the tables
+abbrev spanned : tie.After-first-unnumbered → tie.After-span
+spanned c = c .before .before .before .before
+
+abbrev passed : tie.After-span → tie.Else2
+passed c = c .before .before
 
 misfit-requires : tie.Need-misfit-requires
 misfit-requires c κs = search needs
@@ -13,55 +35,47 @@ refusal-requires c κs = search needs
 
 returns : tie.Need-returns
 returns c =
-    let a = c .before .before .before .before .before .args in
-    report-sizes (a .dim) (a .darts) (a .tables .now) (a .work .now) _ (c .before .before .misfit .ensures) _ (c .refusal .ensures) (c .before .if1 .taken)
+    let m = c .before .before in
+    let a = entry m .args in
+    report-sizes (a .dim) (a .darts) (a .tables .now) (a .work .now) (m .misfit .ensures) (c .refusal .ensures) (c .before .if1 .taken)
 
 misbuilt-requires : tie.Need-misbuilt-requires
 misbuilt-requires c κs =
-    let a = c .before .before .before .before .args in
-    report-limits (a .dim) (a .darts) (a .tables .now) (a .work .now) _ (c .before .misfit .ensures) (c .if1 .left) .0
+    let a = entry (c .before) .args in
+    report-limits (a .dim) (a .darts) (a .tables .now) (a .work .now) (c .before .misfit .ensures) (c .if1 .left)
 
 refusal-requires-2 : tie.Need-refusal-requires-2
 refusal-requires-2 c κs = search needs
 
 returns-2 : tie.Need-returns-2
 returns-2 c =
-    let g = c .before in
-    let a = g .before .before .before .before .before .before .before .args in
-    report-tables (a .dim) (a .darts) (a .tables .now) (a .work .now) _ (g .before .before .before .before .misfit .ensures) (g .before .before .before .if1 .left) _ (g .before .before .misbuilt .ensures) _ (c .refusal2 .ensures) (g .if2 .taken)
+    let b = c .before .before .before in
+    let s = b .before in
+    let a = entry (s .before) .args in
+    let k = s .before .misfit in
+    let e = c .refusal2 .ensures in
+    report-tables (a .dim) (a .darts) (a .tables .now) (a .work .now) (k .ensures) (s .if1 .left) (b .misbuilt .ensures) e (c .before .if2 .taken)
 
 span-requires : tie.Need-span-requires
-span-requires c κs =
-    let g = c .before in
-    let a = g .before .before .before .before .before .before .before .args in
-    let l = report-limits (a .dim) (a .darts) (a .tables .now) (a .work .now) _ (g .before .before .before .before .misfit .ensures) (g .before .before .before .if1 .left) in
-    (l .0, report-valid (a .dim) (a .darts) (a .tables .now) (a .work .now) _ (g .before .before .before .before .misfit .ensures) (g .before .before .before .if1 .left) _ (g .before .before .misbuilt .ensures) (g .if2 .left), l .1)
+span-requires c κs = let T = tabled (c .before) in (T .limits, T .valid, T .room)
 
 first-unnumbered-requires : tie.Need-first-unnumbered-requires
 first-unnumbered-requires c κs =
-    let g = c .before .before .before .before .before in
-    let a = g .before .before .before .before .before .before .before .args in
-    let l = report-limits (a .dim) (a .darts) (a .tables .now) (a .work .now) _ (g .before .before .before .before .misfit .ensures) (g .before .before .before .if1 .left) in
-    omega (arith, l .1, c .before .before .before .span .kept .1 .0)
+    let s = c .before .before .before in
+    omega (arith, tabled (passed s) .room, s .span .kept .1 .0)
 
 mul-blank : tie.Need-mul-blank
-mul-blank c =
-    let g = c .before .before .before .before .before .before .before .before in
-    let a = g .before .before .before .before .before .before .before .args in
-    omega (arith, report-limits (a .dim) (a .darts) (a .tables .now) (a .work .now) _ (g .before .before .before .before .misfit .ensures) (g .before .before .before .if1 .left) .0 .darts .1)
+mul-blank c = omega (arith, tabled (passed (spanned (c .before .before))) .limits .darts .1)
 
 blank-requires : tie.Need-blank-requires
 blank-requires c κs =
-    let g = c .before .before .before .before .before .before .before .before in
-    let a = g .before .before .before .before .before .before .before .args in
-    let l = report-limits (a .dim) (a .darts) (a .tables .now) (a .work .now) _ (g .before .before .before .before .misfit .ensures) (g .before .before .before .if1 .left) in
-    omega (arith, l .1, c .before .before .before .before .before .before .span .kept .1 .0)
+    let s = spanned (c .before .before) in
+    omega (arith, tabled (passed s) .room, s .span .kept .1 .0)
 
 cast-refusal : tie.Need-cast-refusal
 cast-refusal c =
-    let g = c .before .before .before .before .before .before .before .before .before .before .before in
-    let a = g .before .before .before .before .before .before .before .args in
-    omega (arith, report-limits (a .dim) (a .darts) (a .tables .now) (a .work .now) _ (g .before .before .before .before .misfit .ensures) (g .before .before .before .if1 .left) .0 .darts .1, c .before .before .before .before .if3 .taken)
+    let t = c .before .before .before .before in
+    omega (arith, tabled (passed (spanned (t .before))) .limits .darts .1, t .if3 .taken)
 
 refusal-requires-3 : tie.Need-refusal-requires-3
 refusal-requires-3 c κs = search needs
@@ -71,31 +85,34 @@ same-length c = search needs
 
 returns-3 : tie.Need-returns-3
 returns-3 c =
-    let g = c .before .before .before .before .before .before .before .before .before .before .before .before in
-    let a = g .before .before .before .before .before .before .before .args in
-    let l = report-limits (a .dim) (a .darts) (a .tables .now) (a .work .now) _ (g .before .before .before .before .misfit .ensures) (g .before .before .before .if1 .left) in
-    let s = c .before .before .before .before .before .before .before .before .before .before .span in
-    report-unreached (a .dim) (a .darts) (a .tables .now) (a .work .now) _ (g .before .before .before .before .misfit .ensures) (g .before .before .before .if1 .left) _ (g .before .before .misbuilt .ensures) (g .if2 .left) _ _ (s .ensures .0) (omega (arith, l .1, s .kept .1 .0)) _ (c .before .before .before .before .before .before .first-unnumbered .ensures) _ (c .before .before .before .blank .ensures) (s .ensures .1) _ (c .refusal3 .ensures) (c .before .before .before .before .before .if3 .taken)
+    let t = c .before .before .before .before .before in
+    let f = t .before in
+    let k = spanned f .span in
+    let T = tabled (passed (spanned f)) in
+    let eu = c .before .before .before .blank .ensures in
+    report-unreached T (k .ensures .0) (k .kept .1 .0) (f .first-unnumbered .ensures) eu (k .ensures .1) (c .refusal3 .ensures) (t .if3 .taken)
 
 counted-requires : tie.Need-counted-requires
 counted-requires c κs =
-    let g = c .before .before .before .before .before .before .before .before in
-    let a = g .before .before .before .before .before .before .before .args in
-    let l = report-limits (a .dim) (a .darts) (a .tables .now) (a .work .now) _ (g .before .before .before .before .misfit .ensures) (g .before .before .before .if1 .left) in
-    let s = c .before .before .before .before .before .before .span in
-    (l .0, report-valid (a .dim) (a .darts) (a .tables .now) (a .work .now) _ (g .before .before .before .before .misfit .ensures) (g .before .before .before .if1 .left) _ (g .before .before .misbuilt .ensures) (g .if2 .left), omega (arith, l .1, s .kept .1 .0), s .ensures .0, report-marked (a .dim) (a .darts) (a .tables .now) (a .work .now) _ (g .before .before .before .before .misfit .ensures) (g .before .before .before .if1 .left) _ (g .before .before .misbuilt .ensures) (g .if2 .left) _ _ (s .ensures .0) (omega (arith, l .1, s .kept .1 .0)) _ (c .before .before .first-unnumbered .ensures) (c .before .if3 .left))
+    let f = c .before .before in
+    let k = spanned f .span in
+    let T = tabled (passed (spanned f)) in
+    let all = report-marked T (k .ensures .0) (k .kept .1 .0) (f .first-unnumbered .ensures) (c .before .if3 .left) in
+    (T .limits, T .valid, omega (arith, T .room, k .kept .1 .0), k .ensures .0, all)
 
 same-length-2 : tie.Need-same-length-2
 same-length-2 c = search needs
 
 returns-4 : tie.Need-returns-4
 returns-4 c =
-    let g = c .before .before .before .before .before .before .before .before .before .before .before in
-    let a = g .before .before .before .before .before .before .before .args in
-    let l = report-limits (a .dim) (a .darts) (a .tables .now) (a .work .now) _ (g .before .before .before .before .misfit .ensures) (g .before .before .before .if1 .left) in
-    let s = c .before .before .before .before .before .before .before .before .before .span in
-    let k = c .before .before .counted in
-    report-counted (a .dim) (a .darts) (a .tables .now) (a .work .now) _ (g .before .before .before .before .misfit .ensures) (g .before .before .before .if1 .left) _ (g .before .before .misbuilt .ensures) (g .if2 .left) _ _ (s .ensures .0) (omega (arith, l .1, s .kept .1 .0)) _ (c .before .before .before .before .before .first-unnumbered .ensures) _ (k .ensures .1) (s .ensures .1) _ (k .ensures .0) (c .before .before .before .before .if3 .left)
+    let e = c .before .before .before .before in
+    let f = e .before in
+    let k = spanned f .span in
+    let m = c .before .before .counted .ensures in
+    report-counted (tabled (passed (spanned f))) (k .ensures .0) (k .kept .1 .0) (f .first-unnumbered .ensures) (m .1) (k .ensures .1) (m .0) (e .if3 .left)
 
 pub report-spec : {M : Type 1} → statement M
-report-spec = tie.close (tie.spec misfit-requires refusal-requires returns misbuilt-requires refusal-requires-2 returns-2 span-requires first-unnumbered-requires mul-blank blank-requires cast-refusal refusal-requires-3 same-length returns-3 counted-requires same-length-2 returns-4)
+report-spec =
+    tie.close
+    (tie.spec misfit-requires refusal-requires returns misbuilt-requires refusal-requires-2 returns-2 span-requires first-unnumbered-requires mul-blank
+    blank-requires cast-refusal refusal-requires-3 same-length returns-3 counted-requires same-length-2 returns-4)

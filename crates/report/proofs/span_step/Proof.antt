@@ -1,26 +1,24 @@
--- `report::span_step` meets its contract: what is marked stays one part of each N-cell that it has, and the darts of the queue up to the head have been crossed by aN. Assumes nothing.
-use Prim.Native.Nat.{_<_}
+-- `report::span_step` meets its contract: what is marked stays one part of each N-cell that it has, and the darts of the queue
+-- up to the head have been crossed by aN. Assumes nothing.
 use mathlib.Core.Path.{refl}
 use native.Mathlib.Omega.{arith}
 use borrow.Author.Needs.{needs}
-use Rattle.report.proofs.Floods.{flooded-longer}
-use Rattle.report.proofs.Spans.{spun-old, spun-new}
+use Rattle.flood.proofs.Orbits.{orbit-inside, flooded-but, flooded-on}
+use Rattle.report.proofs.Spans.{link-below, head-below, head-class, spun-old, spun-new}
 use Rattle.report.proofs.span_step.Statement.{statement}
 use Rattle.report.proofs.span_step.Tie as tie
 
-add-d : tie.Need-add-d
-add-d c = search needs
+-- the entry, seen from after the queue was read
+abbrev entry : tie.After-queued → tie.Start
+entry c = c .before .before .before .before
 
-mul-d : tie.Need-mul-d
-mul-d c = search needs
-
-slice-read-d : tie.Need-slice-read-d
-slice-read-d c = search needs
+queued-requires : tie.Need-queued-requires
+queued-requires c κs = search needs
 
 link-at-requires : tie.Need-link-at-requires
 link-at-requires c κs =
-    let p = c .before .before .before .pre in
-    (p .0, omega arith, p .3 .queue .darts _ (p .2))
+    let p = entry c .pre in
+    (p .0, omega arith, head-below (p .1) (p .2) (p .3) _ (c .queued .ensures))
 
 cast-if1 : tie.Need-cast-if1
 cast-if1 c = search needs
@@ -30,57 +28,70 @@ mul-if1 c = search needs
 
 slice-read-if1 : tie.Need-slice-read-if1
 slice-read-if1 c =
-    let s = c .before .before .before .before .before in
-    let k = c .before .link-at in
-    let h : k .result < s .args .darts = rw (k .ensures) (s .pre .1 .inside _ _ (omega arith) (s .pre .3 .queue .darts _ (s .pre .2))) in
-    omega arith
-
-returns : tie.Need-returns
-returns c =
-    let p = c .before .before .before .before .before .before .pre in
-    (spun-old (p .1) (p .2) (p .3) _ (c .before .before .link-at .ensures) (c .if1 .taken), refl)
-
-cast-class : tie.Need-cast-class
-cast-class c =
-    let p = c .before .before .before .before .before .before .pre in
-    omega (arith, p .3 .queue .darts _ (p .2))
-
-mul-class : tie.Need-mul-class
-mul-class c =
-    let p = c .before .before .before .before .before .before .pre in
-    omega (arith, p .3 .queue .darts _ (p .2))
-
-slice-read-class : tie.Need-slice-read-class
-slice-read-class c =
-    let p = c .before .before .before .before .before .before .before .pre in
-    omega (arith, p .3 .queue .darts _ (p .2))
-
-sub-class : tie.Need-sub-class
-sub-class c =
-    let p = c .before .before .before .before .before .before .before .pre in
-    omega (arith, p .3 .queue .classes _ (p .2))
-
-flood-requires : tie.Need-flood-requires
-flood-requires c κs =
-    let p = c .before .before .before .before .before .before .before .before .pre in
-    let Q = p .3 .queue in
-    let hd = Q .darts _ (p .2) in
-    (p .0, p .1, Q, omega arith, rw (c .before .before .before .before .link-at .ensures) (p .1 .inside _ _ (omega arith) hd), omega arith)
-
-add-t20 : tie.Need-add-t20
-add-t20 c = search needs
+    let k = c .before in
+    let p = entry (k .before) .pre in
+    let h = head-below (p .1) (p .2) (p .3) _ (k .before .queued .ensures) in
+    omega (arith, link-below (p .1) (k .link-at .ensures) (omega arith) h, p .3 .queue .room)
 
 same-length : tie.Need-same-length
 same-length c = search needs
 
+returns : tie.Need-returns
+returns c =
+    let k = c .before .before in
+    let p = entry (k .before) .pre in
+    (spun-old (p .1) (p .2) (p .3) _ (k .before .queued .ensures) _ (k .link-at .ensures) (c .if1 .taken), refl)
+
+cast-class : tie.Need-cast-class
+cast-class c = search needs
+
+mul-class : tie.Need-mul-class
+mul-class c = search needs
+
+slice-read-class : tie.Need-slice-read-class
+slice-read-class c =
+    let q = c .before .before .before .before in
+    let p = entry q .pre in
+    omega (arith, head-below (p .1) (p .2) (p .3) _ (q .queued .ensures), p .3 .queue .room)
+
+sub-class : tie.Need-sub-class
+sub-class c =
+    let q = c .before .before .before .before in
+    let p = entry q .pre in
+    omega (arith, head-class (p .1) (p .2) (p .3) _ (q .queued .ensures))
+
+all-but-requires : tie.Need-all-but-requires
+all-but-requires c κs = search needs
+
+flood-requires : tie.Need-flood-requires
+flood-requires c κs =
+    let k = c .before .before .before .before .before in
+    let p = entry (k .before) .pre in
+    let h = link-below (p .1) (k .link-at .ensures) (omega arith) (head-below (p .1) (p .2) (p .3) _ (k .before .queued .ensures)) in
+    (p .0, p .3 .queue, rw (c .before .all-but .ensures) (omega arith), orbit-inside (p .1) h, omega arith)
+
+add-t22 : tie.Need-add-t22
+add-t22 c = search needs
+
+same-length-2 : tie.Need-same-length-2
+same-length-2 c = search needs
+
 returns-2 : tie.Need-returns-2
 returns-2 c =
-    let p = c .before .before .before .before .before .before .before .before .before .before .before .before .pre in
-    let Q = p .3 .queue in
-    let hd = Q .darts _ (p .2) in
-    let e = c .before .before .before .before .before .before .before .before .link-at .ensures in
-    let F = c .before .before .before .flood .ensures in
-    (spun-new (p .1) (p .2) (p .3) _ _ e (c .before .before .before .before .before .before .if1 .left) refl F, flooded-longer Q (rw e (p .1 .inside _ _ (omega arith) hd)) (omega arith) F .past)
+    let a = c .before .before .before .before .before in
+    let k = a .before .before .before .before in
+    let s = entry (k .before) in
+    let p = s .pre in
+    let eq = k .before .queued .ensures in
+    let ek = k .link-at .ensures in
+    let u = c .before .before .before .before .before .before .before .if1 .left in
+    let F = flooded-but (s .args .dim) (a .all-but .ensures) (c .before .before .before .flood .ensures) in
+    let h = link-below (p .1) ek (omega arith) (head-below (p .1) (p .2) (p .3) _ eq) in
+    let past = flooded-on (p .3 .queue) h (omega arith) F .past in
+    (spun-new (p .1) (p .2) (p .3) _ eq _ ek _ u refl F, past)
 
 pub span-step-spec : {M : Type 1} → statement M
-span-step-spec = tie.close (tie.spec add-d mul-d slice-read-d link-at-requires cast-if1 mul-if1 slice-read-if1 returns cast-class mul-class slice-read-class sub-class flood-requires add-t20 same-length returns-2)
+span-step-spec =
+    tie.close
+    (tie.spec queued-requires link-at-requires cast-if1 mul-if1 slice-read-if1 same-length returns cast-class mul-class slice-read-class sub-class
+    all-but-requires flood-requires add-t22 same-length-2 returns-2)

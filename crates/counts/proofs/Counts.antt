@@ -1,0 +1,183 @@
+-- Laws of the report's counts, one turn of a loop at a time: a dart leads its cell if no flood before it came there.
+-- Rests on the flood's Orbits and the rules' Orbits.
+use Prim.Native.Nat.{ℕ, zero, suc, _+_, _*_, _≤_, _<_}
+use mathlib.Core.Path.{_≡_, refl, ap, sym, _∙_}
+use mathlib.Core.Logic.{_≢_, _⊎_, inl, inr}
+use mathlib.Core.Bool.{Bool, true, false, not, cond}
+use mathlib.Core.List.{List}
+use native.Mathlib.Omega.{arith}
+use native.Mathlib.Decide.{ℕ-discrete, decLe}
+use lib.ListN.{length, getD, set, replicate, length-set}
+use lib.Seq.{ext-getD, getD-set-same, getD-set-other}
+use lib.Dec.{eqb, leb}
+use borrow.Author.Tests.{eq-eqb, ne-eqb, le-leb, lt-leb}
+use Rattle.rules.specs.Lists.{listOf, someBelow, countBelow}
+use Rattle.rules.specs.Map.{mark, size, place, blank, Reached, allBut, Valid, Limits, reaches}
+use Rattle.rules.specs.Report.{leads, cells, freePairs, cellCounts}
+use Rattle.rules.proofs.Lists.{length-listOf, getD-listOf, getD-same, some-below, below-some}
+use Rattle.rules.proofs.Places.{rank-nth, dart-nth}
+use Rattle.tables.proofs.Laws.{entry-link}
+use Rattle.rules.proofs.Orbits.{valid-closed, reached-sym, reaches-reached, reached-reaches}
+use Rattle.flood.specs.Flood.{Marked, Queue, Extended, Linked, Explored, Flooded}
+use Rattle.flood.proofs.Queues.{extended-marked, queue-blanked, none-blanked}
+use Rattle.flood.proofs.Floods.{linked-reached}
+use Rattle.flood.proofs.Orbits.{reached-marked, flooded-on, flooded-start, flooded-cases, flooded-explored}
+use Rattle.counts.specs.Tests.{isFree}
+
+-- one number more below the bound
+count-yes : (f : ℕ → Bool) (k : ℕ) → f k ≡ true → countBelow (k + 1) f ≡ countBelow k f + 1
+unfolding countBelow
+count-yes f k q = let e : k + 1 ≡ suc k = omega arith in rw (e, q) (omega arith)
+
+count-no : (f : ℕ → Bool) (k : ℕ) → f k ≡ false → countBelow (k + 1) f ≡ countBelow k f
+unfolding countBelow
+count-no f k q = let e : k + 1 ≡ suc k = omega arith in rw (e, q) (omega arith)
+
+pub count-none : (f : ℕ → Bool) → countBelow 0 f ≡ 0
+unfolding countBelow
+count-none f = refl
+
+-- m numbers more
+count-on : (f : ℕ → Bool) (k m : ℕ) → countBelow (k + m) f ≡ countBelow k f + countBelow m (λ d. f (k + d))
+unfolding countBelow
+count-on f k zero = let e : k + 0 ≡ k = omega arith in rw e (omega arith)
+count-on f k (suc m) = let e : k + suc m ≡ suc (k + m) = omega arith in rw e (omega (arith, count-on f k m))
+
+-- the test of the code, x being the entry that it read
+module _ (N n : ℕ) (t : List ℕ) (i d x : ℕ) (L : Limits N n t) (hi : i ≤ N) (hd : d < n) (e : x ≡ getD t (place N n i d) 0) where
+  free-test : isFree N n t (i * n + d) ≡ eqb x d
+  unfolding isFree
+  free-test = rw (rank-nth n i d hd, dart-nth n i d hd, ← entry-link N n t i d L hi hd, e)
+
+  pub free-yes : (free : ℕ) → x ≡ d → free ≡ countBelow d (λ d. isFree N n t (i * n + d)) → free + 1 ≡ countBelow (d + 1) (λ d. isFree N n t (i * n + d))
+  free-yes free h c = ap (λ (y : ℕ). y + 1) c ∙ sym (count-yes (λ d. isFree N n t (i * n + d)) d (free-test ∙ eq-eqb x d h))
+
+  pub free-no : (free : ℕ) → x ≢ d → free ≡ countBelow d (λ d. isFree N n t (i * n + d)) → free ≡ countBelow (d + 1) (λ d. isFree N n t (i * n + d))
+  free-no free h c = c ∙ sym (count-no (λ d. isFree N n t (i * n + d)) d (free-test ∙ ne-eqb x d h))
+
+-- no rank, and one rank more
+pub free-start : (N n : ℕ) (t : List ℕ) → 0 ≡ countBelow (0 * n) (isFree N n t)
+free-start N n t = let z : 0 * n ≡ 0 = omega arith in rw z (sym (count-none (isFree N n t)))
+
+pub free-next : (N n : ℕ) (t : List ℕ) (i free more : ℕ) → free ≡ countBelow (i * n) (isFree N n t)
+    → more ≡ countBelow n (λ d. isFree N n t (i * n + d)) → free + more ≡ countBelow ((i + 1) * n) (isFree N n t)
+free-next N n t i free more e q = let z : (i + 1) * n ≡ i * n + n = omega arith in rw (z, e, q) (sym (count-on (isFree N n t) (i * n) n))
+
+pub free-end : (N n : ℕ) (t : List ℕ) (i free : ℕ) → i ≡ N + 1 → free ≡ countBelow (i * n) (isFree N n t) → free ≡ freePairs N n t
+unfolding freePairs isFree
+free-end N n t i free e c = let z : i * n ≡ size N n = rw e (omega arith) in c ∙ ap (λ (x : ℕ). countBelow x (isFree N n t)) z
+
+-- floods of the cells of rank i have come to dart d
+pub record Swept (N n : ℕ) (t : List ℕ) (i d tail found : ℕ) (w : List ℕ) : Type 0 where
+  pub queue : Queue n tail w
+  pub explored : Explored (allBut i) N n t 0 tail w
+  pub traced : (x : ℕ) → x < n → Marked w x → (e : ℕ) × (e < d) × Reached (allBut i) N n t e x
+  pub passed : (x : ℕ) → x < d → Marked w x
+  pub count : found ≡ countBelow d (leads N n t i)
+  pub few : found ≤ d
+
+pub swept-start : (N n : ℕ) (t : List ℕ) (i : ℕ) (w w' : List ℕ) → 2 * n ≤ length w → w' ≡ blank n w → Swept N n t i 0 0 0 w'
+swept-start N n t i w w' hw e = record {
+  queue = queue-blanked n w w' hw e;
+  explored = λ p hf ht. absurd (omega arith);
+  traced = λ x h m. absurd (none-blanked n w w' hw e x h m);
+  passed = λ x h. absurd (omega arith);
+  count = sym (count-none (leads N n t i));
+  few = omega arith;
+}
+
+module _ {N n : ℕ} {t : List ℕ} (v : Valid N n t) {i d tail found : ℕ} {w : List ℕ} (R : Swept N n t i d tail found w) (hd : d < n) where
+  abbrev met : ℕ → Bool
+  met e = reaches (allBut i) N n t d e
+
+  leads-no : Marked w d → leads N n t i d ≡ false
+  unfolding leads
+  leads-no m =
+      let (e, he, r) = R .traced d hd m in
+      let C = valid-closed v in
+      rw (below-some d met e he (reached-reaches (allBut i) N n t C d e hd (reached-sym C (omega arith) r)))
+
+  leads-yes : getD w d 0 ≡ mark → leads N n t i d ≡ true
+  unfolding leads
+  leads-yes u = go (someBelow d met) refl
+    where
+      go : (b : Bool) → someBelow d met ≡ b → not b ≡ true
+      go false q = refl
+      go true q =
+          let (e, he, r) = some-below d met q in
+          let C = valid-closed v in
+          let back = reached-sym C hd (reaches-reached (allBut i) N n t C d e hd (omega arith) r) in
+          absurd (reached-marked (R .queue) (R .explored) (omega arith) (R .passed e he) back .1 u)
+
+  passed-next : (w' : List ℕ) → ((x : ℕ) → x < d → Marked w' x) → Marked w' d → (x : ℕ) → x < d + 1 → Marked w' x
+  passed-next w' before m x h = go (ℕ-discrete x d)
+    where
+      go : Dec (x ≡ d) → Marked w' x
+      go (yes e) = rw e m
+      go (no e) = before x (omega arith)
+
+  pub swept-old : Marked w d → Swept N n t i (d + 1) tail found w
+  swept-old m = record {
+    queue = R .queue;
+    explored = R .explored;
+    traced = λ x h y. let (e, he, r) = R .traced x h y in (e, omega arith, r);
+    passed = passed-next w (R .passed) m;
+    count = R .count ∙ sym (count-no (leads N n t i) d (leads-no m));
+    few = omega (arith, R .few);
+  }
+
+  pub swept-new : {tail' : ℕ} {w' : List ℕ} → getD w d 0 ≡ mark → Flooded (allBut i) N n t d 0 tail tail' w w' → Swept N n t i (d + 1) tail' (found + 1) w'
+  swept-new {tail'} {w'} u F = record {
+    queue = L .queue;
+    explored = flooded-explored (R .queue) hd (omega arith) F (R .explored);
+    traced = λ x h y. from x h (flooded-cases (R .queue) hd (omega arith) F x h y);
+    passed = passed-next w' (λ x h. extended-marked L (omega arith) (R .passed x h)) (flooded-start (R .queue) hd (omega arith) F);
+    count = ap (λ (x : ℕ). x + 1) (R .count) ∙ sym (count-yes (leads N n t i) d (leads-yes u));
+    few = omega (arith, R .few);
+  }
+    where
+      L : Extended n tail tail' w w'
+      L = flooded-on (R .queue) hd (omega arith) F
+
+      from : (x : ℕ) → x < n → Marked w x ⊎ Linked (allBut i) N n t d 0 x (getD w' x 0) → (e : ℕ) × (e < d + 1) × Reached (allBut i) N n t e x
+      from x h (inl m) = let (e, he, r) = R .traced x h m in (e, omega arith, r)
+      from x h (inr r) = (d, omega arith, linked-reached r)
+
+pub swept-end : {N n : ℕ} {t : List ℕ} {i d tail found : ℕ} {w : List ℕ} → Swept N n t i d tail found w → d ≡ n → found ≡ cells N n t i
+unfolding cells
+swept-end {N} {n} {t} {i} R e = R .count ∙ ap (λ (x : ℕ). countBelow x (leads N n t i)) e
+
+-- the counts of the ranks below i are there, and the others are 0
+pub record Tallied (N n : ℕ) (t : List ℕ) (i : ℕ) (counts : List ℕ) : Type 0 where
+  pub seven : length counts ≡ 7
+  pub done : (j : ℕ) → j < i → getD counts j 0 ≡ cells N n t j
+  pub rest : (j : ℕ) → i ≤ j → getD counts j 0 ≡ 0
+
+pub tallied-start : (N n : ℕ) (t : List ℕ) → Tallied N n t 0 (replicate 7 0)
+tallied-start N n t = record { seven = refl; done = λ j h. absurd (omega arith); rest = λ j h. getD-same 7 j 0 }
+
+module _ {N n i : ℕ} {t counts : List ℕ} (R : Tallied N n t i counts) where
+  pub tallied-next : (found : ℕ) → i < 7 → found ≡ cells N n t i → Tallied N n t (i + 1) (set counts i found)
+  tallied-next found h e = record {
+    seven = length-set counts i found ∙ R .seven;
+    done = λ j k. done j k (ℕ-discrete j i);
+    rest = λ j k. getD-set-other counts i j found 0 (omega arith) ∙ R .rest j (omega arith);
+  }
+    where
+      done : (j : ℕ) → j < i + 1 → Dec (j ≡ i) → getD (set counts i found) j 0 ≡ cells N n t j
+      done j k (yes q) = rw q (getD-set-same counts i found 0 (omega (arith, R .seven)) ∙ e)
+      done j k (no q) = getD-set-other counts i j found 0 q ∙ R .done j (omega arith)
+
+  pub tallied-end : i ≡ N + 1 → counts ≡ cellCounts N n t
+  unfolding cellCounts
+  tallied-end e = ext-getD 0 counts (listOf 7 count) (R .seven ∙ sym (length-listOf 7 count)) (λ j h. one j (decLe j N) ∙ sym (listed j h))
+    where
+      count : ℕ → ℕ
+      count j = cond (leb j N) (cells N n t j) 0
+
+      listed : (j : ℕ) → j < length counts → getD (listOf 7 count) j 0 ≡ count j
+      listed j h = getD-listOf 7 count j 0 (omega (arith, R .seven))
+
+      one : (j : ℕ) → Dec (j ≤ N) → getD counts j 0 ≡ count j
+      one j (yes h) = rw (le-leb j N h) (R .done j (omega arith))
+      one j (no h) = rw (lt-leb j N (omega arith)) (R .rest j (omega arith))

@@ -1,0 +1,4 @@
+pub mod Sets
+pub mod Queues
+pub mod Floods
+pub mod Orbits
