@@ -28,7 +28,7 @@ pub extern "C" fn kz_check(
         × (now (answer .exit) ≡ checkNumbers (checkAnswer dim darts root (now (tables .entry)) (now (work .entry))))
         × (now (work .exit) ≡ checkWork dim darts root (now (tables .entry)) (now (work .entry))) ⌝ }
 {
-    let a = walk::check(dim as usize, darts as usize, root as usize, tables, work);
+    let a = checker::check(dim as usize, darts as usize, root as usize, tables, work);
     *answer = [a.number, a.place];
     a.number
 }

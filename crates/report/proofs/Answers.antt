@@ -19,8 +19,8 @@ use Rattle.rules.specs.Report.{cellCounts, freePairs, orientable, reportAnswerO
 use Rattle.rules.proofs.Lists.{not-both, first-before, getD-any, first-same}
 use Rattle.rules.proofs.Orbits.{Closed, valid-closed, reaches-reached, reached-reaches}
 use Rattle.rules.proofs.Check.{Case, Passes, refused-case, refused-some, fine-passes}
-use Rattle.walk.specs.Numbers.{numberless, misfitOf, misbuiltOf}
-use Rattle.walk.proofs.Verdicts.{numbered-verdict, check-sizes, check-limits, check-tables, check-valid, tabled-on}
+use Rattle.checker.specs.Parts.{numberless, misfitOf, misbuiltOf}
+use Rattle.checker.proofs.Verdicts.{numbered-verdict, check-sizes, check-limits, check-tables, check-valid, tabled-on}
 use Rattle.report.specs.Answer.{refusalOf, countedOf}
 use Rattle.flood.proofs.Floods.{linked-reached}
 use Rattle.report.specs.Spans.{Spanned, AllMarked}

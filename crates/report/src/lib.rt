@@ -140,16 +140,16 @@ pub fn report(dim: usize, darts: usize, tables: &[u16], work: &mut [u16]) -> Rep
     ensures { λ r. ⌜ (r ≡ reportAnswer dim darts (now (tables .entry)) (now (work .entry)))
         × (now (work .exit) ≡ reportWork dim darts (now (tables .entry)) (now (work .entry))) ⌝ }
 {
-    let first = walk::misfit(dim, darts, 0, tables.len(), work.len());
+    let first = checker::misfit(dim, darts, 0, tables.len(), work.len());
     if first != 0 {
         return refusal(first, 0);
     }
-    let next = walk::misbuilt(tables, dim, darts);
+    let next = checker::misbuilt(tables, dim, darts);
     if next.number != 0 {
         return refusal(next.number, next.place);
     }
     let top = span(tables, work, dim, darts);
-    let d = walk::first_unnumbered(work, darts);
+    let d = checker::first_unnumbered(work, darts);
     if d < darts {
         tables::blank(work, 2 * darts);
         return refusal(9, d as u32);
