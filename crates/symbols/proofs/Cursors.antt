@@ -9,6 +9,7 @@ use lib.ListN.{length, getD, drop, drop-of-length-le}
 use lib.Seq.{drop-nil, drop-drop, drop-append-seam}
 use borrow.Author.Tests.{eq-eqb, ne-eqb}
 use Rattle.rules.specs.declared.WalkNo.{WalkNo}
+use Rattle.rules.specs.declared.Symbol.the-variants.{New, Border, Index}
 use Rattle.rules.specs.Session.{begins}
 use Rattle.rules.specs.Walk.{Symbol}
 use Rattle.rules.specs.Stream as stream
@@ -104,7 +105,7 @@ module _ {c : Cursor} {page : List ℕ} {r : Bit} (t : BitTaken r c page) where
   unfolding told PastSymbol takeSymbol
   symbol-out q = record { tells = rw (bit-out t q); past = tt }
 
-  pub symbol-new : (d : Cursor) → r ≡ Zero d → SymbolTaken (Taken.New d) c page
+  pub symbol-new : (d : Cursor) → r ≡ Zero d → SymbolTaken (Taken.Symbol New d) c page
   unfolding told PastSymbol takeSymbol
   symbol-new d q =
       let (l, p) = bit-zero t d q in
@@ -116,7 +117,7 @@ module _ {c : Cursor} {page : List ℕ} {r : Bit} (t : BitTaken r c page) where
     unfolding told PastSymbol takeSymbol
     symbol-out-2 z = let (l, p) = bit-one t d q in record { tells = rw (l, bit-out u z); past = tt }
 
-    pub symbol-border : (e : Cursor) → s ≡ Zero e → SymbolTaken (Taken.Border e) c page
+    pub symbol-border : (e : Cursor) → s ≡ Zero e → SymbolTaken (Taken.Symbol Border e) c page
     unfolding told PastSymbol takeSymbol
     symbol-border e z =
         let (l, p) = bit-one t d q in
@@ -133,7 +134,7 @@ module _ {c : Cursor} {page : List ℕ} {r : Bit} (t : BitTaken r c page) where
       unfolding told PastSymbol takeSymbol toldNumber
       symbol-short h = record { tells = rw both-ones (rw h at (v .tells)); past = tt }
 
-      pub symbol-index : c .waiting ≤ 13 → (w : WalkNo) (f : Cursor) → n ≡ Number.Is w f → SymbolTaken (Taken.Index w f) c page
+      pub symbol-index : c .waiting ≤ 13 → (w : WalkNo) (f : Cursor) → n ≡ Number.Is w f → SymbolTaken (Taken.Symbol (Index w) f) c page
       unfolding told PastSymbol takeSymbol toldNumber PastNumber
       symbol-index few w f h =
           let p : Past 12 e f page = rw h at (v .past) in
@@ -155,21 +156,21 @@ module _ (c d : Cursor) (page : List ℕ) (none : c .waiting ≡ 0) where
     begun : (j k a b : ℕ) → a < 2 ^ j → b < 2 ^ k → j + k ≡ 14 → a * 2 ^ k + b ≡ head → atHand c page ≡ bitsOf j a ++ (bitsOf k b ++ rest)
     begun j k a b ha hb n q = rw (bits-before j k a b rest ha hb, n, q) e
 
-    pub head-new : head < 8192 → PastPage 1 c d page → SymbolTaken (Taken.New d) c page
+    pub head-new : head < 8192 → PastPage 1 c d page → SymbolTaken (Taken.Symbol New d) c page
     unfolding told PastSymbol takeSymbol code bitsOf
     head-new h p = record {
       tells = code-past Symbol.new (bitsOf 13 head ++ rest) refl (begun 1 13 0 head (omega arith) h refl (omega arith)) p;
       past = record { fits = p .fits; used = λ g. p .none };
     }
 
-    pub head-border : 8192 ≤ head → head < 12288 → PastPage 2 c d page → SymbolTaken (Taken.Border d) c page
+    pub head-border : 8192 ≤ head → head < 12288 → PastPage 2 c d page → SymbolTaken (Taken.Symbol Border d) c page
     unfolding told PastSymbol takeSymbol code bitsOf
     head-border l h p = record {
       tells = code-past Symbol.border (bitsOf 12 (head - 8192) ++ rest) refl (begun 2 12 2 (head - 8192) (omega arith) (omega arith) refl (omega arith)) p;
       past = record { fits = p .fits; used = λ g. p .none };
     }
 
-    pub head-index : 12288 ≤ head → head < 16384 → PastPage 14 c d page → SymbolTaken (Taken.Index (record { 0 = head - 12288 }) d) c page
+    pub head-index : 12288 ≤ head → head < 16384 → PastPage 14 c d page → SymbolTaken (Taken.Symbol (Index (record { 0 = head - 12288 })) d) c page
     unfolding told PastSymbol code bitsOf
     head-index l h p =
         let w = head - 12288 in

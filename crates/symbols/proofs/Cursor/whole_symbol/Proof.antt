@@ -79,8 +79,8 @@ returns-2 c =
     let (rest, e) = hand-head _ _ (s .pre .1) (s .pre .0) (s .pre .2) (b at .fits) (b (at + 1) .fits) (b (at + 2) .fits) in
     head-border _ _ _ (s .pre .1) _ rest e (c .before .before .if1 .left) (c .before .if2 .taken) (c .moved2 .ensures _ (omega arith))
 
-cast-t23 : tie.Need-cast-t23
-cast-t23 c = search needs
+cast-t26 : tie.Need-cast-t26
+cast-t26 c = search needs
 
 moved-requires-3 : tie.Need-moved-requires-3
 moved-requires-3 c κs = search needs
@@ -96,4 +96,4 @@ returns-3 c =
 pub whole-symbol-spec : {M : Type 1} → statement M
 whole-symbol-spec =
     tie.close
-    (tie.spec shared-slice-read-three cast-three mul-three add-three shared-slice-read-three-2 cast-three-2 add-three-2 mul-three-2 add-three-3 shared-slice-read-three-3 cast-three-3 add-three-4 sub-head shr-head moved-requires returns moved-requires-2 returns-2 cast-t23 moved-requires-3 returns-3)
+    (tie.spec shared-slice-read-three cast-three mul-three add-three shared-slice-read-three-2 cast-three-2 add-three-2 mul-three-2 add-three-3 shared-slice-read-three-3 cast-three-3 add-three-4 sub-head shr-head moved-requires returns moved-requires-2 returns-2 cast-t26 moved-requires-3 returns-3)
