@@ -2,7 +2,7 @@
 use native.Mathlib.Omega.{arith}
 use lib.ListN.{length-set}
 use borrow.Author.Needs.{needs}
-use Rattle.steps.proofs.Turns.{place-room}
+use Rattle.steps.proofs.Steps.{place-room}
 use Rattle.steps.proofs.join.Statement.{statement}
 use Rattle.steps.proofs.join.Tie as tie
 
