@@ -1,5 +1,5 @@
--- The session's calls, one way through the code at a time: the header's bytes, a fit running session may go on, a complete one takes no byte. Rests on the rules' Fitness and
--- Sessions, and on steps.
+-- The session's calls, one way through the code at a time: the header's bytes, a fit running session may go on, a complete one takes no byte. Rests on the
+-- rules' Fitness and Sessions, and on runs.
 use Prim.Native.Nat.{ℕ, _+_, _*_, _/_, _%_, _≤_, _<_, _^_}
 use mathlib.Core.Path.{_≡_, refl, ap, sym, _∙_}
 use mathlib.Core.Logic.{_≢_, _⊎_, inl, inr}
@@ -18,7 +18,6 @@ use Rattle.symbols.specs.declared.Cursor.{Cursor}
 use Rattle.rules.specs.declared.Stand.{Stand}
 use Rattle.records.specs.declared.Paged.{Paged}
 use Rattle.rules.specs.declared.State.the-variants.{Header, Running, Complete, Closed, Refused}
-use Rattle.rules.specs.Lists.{sum}
 use Rattle.rules.specs.Map.{dimFits, size, blank, Limits}
 use Rattle.rules.specs.Walk.{Walk, start, steps}
 use Rattle.rules.specs.Stream.{bitsOf, value, unpack}
@@ -30,9 +29,11 @@ use Rattle.rules.proofs.Readings.{begins-13, fits-dim}
 use Rattle.rules.proofs.Fitness.{walk-held, waiting-held, Fits, FitSession, fit-session, fit-shape}
 use Rattle.rules.proofs.Sessions.{record-fit, close-reads}
 use Rattle.symbols.specs.Cursors.{atHand}
-use Rattle.steps.specs.Turns.{Ready}
-use Rattle.steps.proofs.Turns.{walk-session, walk-start, ready-start}
-use Rattle.records.specs.Lefts.{leftBy, idleBy, heldBy}
+use Rattle.steps.specs.Steps.{stand}
+use Rattle.steps.proofs.Steps.{walk-start}
+use Rattle.runs.specs.Turns.{Ready}
+use Rattle.runs.proofs.Turns.{ready-start}
+use Rattle.records.specs.Lefts.{leftBy, idleBy, heldBy, goodBy}
 use Rattle.records.proofs.Lefts.{settle-same}
 use Rattle.reader.specs.Calls.{headed, cursorOf}
 
@@ -107,11 +108,11 @@ module _ (r : Paged) (N n : ℕ) (bits : List Bool) (t : List ℕ) where
   unfolding begun
   begin-room e f h l = rw (h, lt-leb (size N n) (length t) l) (refused-left r 3 0 t e f)
 
-  pub begin-walk : (u : List ℕ) (c : Cursor) (page : List ℕ) (b : List ℕ) → b ≡ blank (size N n) t → leftBy r u ≡ leaves (settle (runAll (walkAt N n (record { count = 1; positions = replicate 7 0 }) b) (atHand c page))) b
+  pub begin-walk : (u : List ℕ) (c : Cursor) (page : List ℕ) (b : List ℕ) → b ≡ blank (size N n) t → leftBy r u ≡ leaves (settle (runAll (walkAt N n (stand 1 (replicate 7 0)) b) (atHand c page))) b
       → atHand c page ≡ bits → (1 ≤ N) × (N ≤ 6) → (1 ≤ n) × (n ≤ 4096) → size N n ≤ length t → leftBy r u ≡ leaves (begun (dimFits N) (leb (size N n) (length t)) N n bits t) t
   unfolding begun
   begin-walk u c page b eb e ea hN hn l =
-      let w : walkAt N n (record { count = 1; positions = replicate 7 0 }) b ≡ start N n t = rw eb (walk-start N n t (hn .0) (hn .1) (hN .1)) in
+      let w : walkAt N n (stand 1 (replicate 7 0)) b ≡ start N n t = rw eb (walk-start N n t (hn .0) (hn .1) (hN .1)) in
       rw (fits-dim N (hN .0) (hN .1), le-leb (size N n) (length t) l)
       (e ∙ (rw (w, ea) (settle-same (runAll (start N n t) bits) b t)))
 
@@ -184,7 +185,7 @@ pub begin-blank : (N n : ℕ) (t b : List ℕ) → b ≡ blank ((N + 1) * n) t �
 begin-blank N n t b e = e ∙ ap (λ (k : ℕ). blank k t) (size-is N n)
 
 pub begin-ready : (N n at : ℕ) (t page : List ℕ) → (1 ≤ N) × (N ≤ 6) → (1 ≤ n) × (n ≤ 4096) → (b : List ℕ) → b ≡ blank ((N + 1) * n) t → at ≤ length page
-    → Ready N n (record { count = 1; positions = replicate 7 0 }) (record { waiting = 0; value = 0; at = at; bit = 0 }) b page
+    → Ready N n (stand 1 (replicate 7 0)) (record { waiting = 0; value = 0; at = at; bit = 0 }) b page
 begin-ready N n at t page hN hn b e h =
     rw (begin-blank N n t b e) (ready-start N n (record { waiting = 0; value = 0; at = at; bit = 0 }) t page hN hn (record { few = omega arith; holds = omega arith; within = h; inByte = omega arith }) refl)
 
@@ -233,7 +234,7 @@ module _ (s : Session) (t : List ℕ) (seven : length (s .positions) ≡ 7) (e :
         where
           walking : s ≡ held Running w bs → t ≡ w .links → Ready (s .dim) (s .darts) (standOf s) (cursorOf s) t page
           walking es et =
-              let p : walkAt (s .dim) (s .darts) (standOf s) t ≡ w = sym (walk-session s t) ∙ ((λ i. walkOf (es i) (et i)) ∙ walk-held Running w bs (v .shape)) in
+              let p : walkAt (s .dim) (s .darts) (standOf s) t ≡ w = (λ i. walkOf (es i) (et i)) ∙ walk-held Running w bs (v .shape) in
               let b : bitsOf (s .waiting) (s .value) ≡ bs = unfold waitingOf in ap waitingOf es ∙ waiting-held Running w bs in
               let ed : s .dim ≡ w .dim = unfold held in ap (λ (x : Session). x .dim) es in
               let ew : s .waiting ≡ length bs = unfold held in ap (λ (x : Session). x .waiting) es in
@@ -287,25 +288,22 @@ running-may s k ek t page y at h =
 
 -- calls on the walk of a record
 module _ (r : Paged) (s : Session) (k : Stand) (ek : k ≡ standOf s) (t : List ℕ) where
-  abbrev answerBy : Stand → ReadAnswer
-  answerBy x = record { number = 0; place = 0; steps = sum (x .positions); dim = s .dim; darts = s .darts }
-
   walk-of : walkAt (s .dim) (s .darts) k t ≡ walkOf s t
-  walk-of = ap (λ (x : Stand). walkAt (s .dim) (s .darts) x t) ek ∙ sym (walk-session s t)
+  walk-of = ap (λ (x : Stand). walkAt (s .dim) (s .darts) x t) ek
 
   pub running-goes : (page u : List ℕ) → leftBy r u ≡ leaves (settle (runAll (walkAt (s .dim) (s .darts) k t) (atHand (cursorOf s) page))) t → leftBy r u ≡ leaves (goOn s (unpack page) t) t
   unfolding goOn atHand waitingOf
   running-goes page u e = rw walk-of at e
 
-  complete-left : r .session ≡ heldBy Complete (s .dim) (s .darts) k 0 0 → r .answer ≡ answerBy k → leftBy r t ≡ leaves (Reading.complete (walkOf s t)) t
+  complete-left : r .session ≡ heldBy Complete (s .dim) (s .darts) k 0 0 → r .answer ≡ goodBy (s .dim) (s .darts) k → leftBy r t ≡ leaves (Reading.complete (walkOf s t)) t
   unfolding leftBy leaves store held answerOf goodAnswer tablesOf steps walkAt value
-  complete-left e f = λ i. record { session = (e ∙ ap (λ (x : Stand). heldBy Complete (s .dim) (s .darts) x 0 0) ek) i; answer = (f ∙ ap answerBy ek) i; tables = t }
+  complete-left e f = λ i. record { session = (e ∙ ap (λ (x : Stand). heldBy Complete (s .dim) (s .darts) x 0 0) ek) i; answer = (f ∙ ap (goodBy (s .dim) (s .darts)) ek) i; tables = t }
 
-  pub closed-left : r .session ≡ heldBy Closed (s .dim) (s .darts) k 0 0 → r .answer ≡ answerBy k → leftBy r t ≡ leaves (closing (Reading.complete (walkOf s t)) t) t
+  pub closed-left : r .session ≡ heldBy Closed (s .dim) (s .darts) k 0 0 → r .answer ≡ goodBy (s .dim) (s .darts) k → leftBy r t ≡ leaves (closing (Reading.complete (walkOf s t)) t) t
   unfolding leftBy leaves closing store held answerOf goodAnswer tablesOf steps walkAt value
-  closed-left e f = λ i. record { session = (e ∙ ap (λ (x : Stand). heldBy Closed (s .dim) (s .darts) x 0 0) ek) i; answer = (f ∙ ap answerBy ek) i; tables = t }
+  closed-left e f = λ i. record { session = (e ∙ ap (λ (x : Stand). heldBy Closed (s .dim) (s .darts) x 0 0) ek) i; answer = (f ∙ ap (goodBy (s .dim) (s .darts)) ek) i; tables = t }
 
-  pub complete-none : (page : List ℕ) → length page ≡ 0 → r .session ≡ heldBy Complete (s .dim) (s .darts) k 0 0 → r .answer ≡ answerBy k → leftBy r t ≡ leaves (afterEnd (walkOf s t) (unpack page)) t
+  pub complete-none : (page : List ℕ) → length page ≡ 0 → r .session ≡ heldBy Complete (s .dim) (s .darts) k 0 0 → r .answer ≡ goodBy (s .dim) (s .darts) k → leftBy r t ≡ leaves (afterEnd (walkOf s t) (unpack page)) t
   unfolding unpack afterEnd
   complete-none [] l e f = complete-left e f
   complete-none (x ∷ page) l e f = absurd (omega arith)

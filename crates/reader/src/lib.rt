@@ -15,7 +15,7 @@ ghost use Rattle.rules.specs.Map.{Limits};
 ghost use Rattle.rules.specs.Stream.{unpack};
 ghost use Rattle.rules.specs.Reading.{readAnswer, readTables, readingOf};
 ghost use Rattle.rules.specs.Session.{leaves, waitingOf, walkOf, goOn, afterEnd, pageAs, closeAs, standOf};
-ghost use Rattle.steps.specs.Turns.{Ready};
+ghost use Rattle.runs.specs.Turns.{Ready};
 ghost use Rattle.records.specs.Lefts.{leftBy, idleBy};
 ghost use Rattle.reader.specs.Calls.{headed, cursorOf};
 

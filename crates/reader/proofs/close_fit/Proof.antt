@@ -6,7 +6,7 @@ use lib.ListN.{length, length-map}
 use Rattle.rules.specs.declared.State.{State}
 use Rattle.rules.specs.declared.State.the-variants.{Header, Running, Complete, Closed, Refused}
 use Rattle.rules.specs.Session.{closeAs}
-use Rattle.steps.proofs.Turns.{ready-limits}
+use Rattle.runs.proofs.Turns.{ready-limits}
 use Rattle.reader.proofs.Laws.{by-state, running-ready, complete-limits, close-header, close-running, closed-left, unchanged-left}
 use Rattle.reader.proofs.close_fit.Statement.{statement}
 use Rattle.reader.proofs.close_fit.Tie as tie
@@ -35,7 +35,7 @@ cast-spoiled-2 c = search needs
 spoiled-requires : tie.Need-spoiled-requires
 spoiled-requires c κs =
     let s = c .before .before .before .before .before .before .before in
-    ready-limits _ _ _ _ _ _ (running-ready (s .args .s) (s .args .tables .now) (seven s) (s .pre) [] (c .before .before .before .enum-told2 .given .1))
+    ready-limits (running-ready (s .args .s) (s .args .tables .now) (seven s) (s .pre) [] (c .before .before .before .enum-told2 .given .1))
 
 enum-told-3 : tie.Need-enum-told-3
 enum-told-3 c = search needs
