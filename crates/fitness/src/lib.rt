@@ -221,13 +221,13 @@ pub fn lowest(dim: usize, count: u16, positions: [u16; 7]) -> usize
     requires { ⌜ dim ≤ 6 ⌝ }
     ensures { λ r. ⌜ r ≡ lowestFrom (dim + 1) 0 count positions ⌝ }
 {
-    let mut above = count;
+    let mut entered = count;
     let mut j = 0;
     while j <= dim {
-        if positions[j] < above {
+        if positions[j] < entered {
             return j;
         }
-        above = positions[j];
+        entered = positions[j];
         j += 1;
     }
     j

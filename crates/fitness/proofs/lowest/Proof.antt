@@ -8,10 +8,10 @@ use Rattle.fitness.proofs.lowest.Statement.{statement}
 use Rattle.fitness.proofs.lowest.Tie as tie
 
 abbrev Inv-loop : tie.InvT-loop
-Inv-loop dim count positions above₀ j₀ above j = (j ≤ dim + 1) × (lowestFrom (dim + 1) 0 count positions ≡ lowestFrom (dim + 1 - j) j above positions)
+Inv-loop dim count positions entered₀ j₀ entered j = (j ≤ dim + 1) × (lowestFrom (dim + 1) 0 count positions ≡ lowestFrom (dim + 1 - j) j entered positions)
 
 abbrev μ-loop : tie.MeasureT-loop
-μ-loop dim count positions above₀ j₀ above j = dim + 1 - j
+μ-loop dim count positions entered₀ j₀ entered j = dim + 1 - j
 
 loop-holds : tie.Need-loop-holds Inv-loop μ-loop
 loop-holds c = let e : c .args .dim + 1 - 0 ≡ c .args .dim + 1 = omega arith in (omega arith, rw e)
@@ -26,13 +26,13 @@ returns : tie.Need-returns Inv-loop μ-loop
 returns c =
     let a = c .before .before .before .args in
     let l = c .before .before .loop in
-    sym (l .inv .1 ∙ lowest-stop (a .dim + 1) (l .j) (l .above) (a .t3) (omega arith) (c .if1 .taken))
+    sym (l .inv .1 ∙ lowest-stop (a .dim + 1) (l .j) (l .entered) (a .t3) (omega arith) (c .if1 .taken))
 
-mul-above : tie.Need-mul-above Inv-loop μ-loop
-mul-above c = omega arith
+mul-entered : tie.Need-mul-entered Inv-loop μ-loop
+mul-entered c = omega arith
 
-array-read-above : tie.Need-array-read-above Inv-loop μ-loop
-array-read-above c = omega arith
+array-read-entered : tie.Need-array-read-entered Inv-loop μ-loop
+array-read-entered c = omega arith
 
 add-j : tie.Need-add-j Inv-loop μ-loop
 add-j c = omega arith
@@ -44,13 +44,13 @@ loop-again : tie.Need-loop-again Inv-loop μ-loop
 loop-again c =
     let a = c .before .before .before .args in
     let l = c .before .before .loop in
-    (omega arith, l .inv .1 ∙ lowest-on (a .dim + 1) (l .j) (l .above) (a .t3) (omega arith) (c .if1 .left))
+    (omega arith, l .inv .1 ∙ lowest-on (a .dim + 1) (l .j) (l .entered) (a .t3) (omega arith) (c .if1 .left))
 
 returns-2 : tie.Need-returns-2 Inv-loop μ-loop
 returns-2 c =
     let a = c .before .before .args in
     let l = c .before .loop in
-    sym (l .inv .1 ∙ lowest-over (a .dim + 1) (l .j) (l .above) (a .t3) (omega arith))
+    sym (l .inv .1 ∙ lowest-over (a .dim + 1) (l .j) (l .entered) (a .t3) (omega arith))
 
 pub lowest-spec : {M : Type 1} → statement M
-lowest-spec = tie.close (tie.spec Inv-loop μ-loop loop-holds mul-if1 array-read-if1 returns mul-above array-read-above add-j loop-less loop-again returns-2)
+lowest-spec = tie.close (tie.spec Inv-loop μ-loop loop-holds mul-if1 array-read-if1 returns mul-entered array-read-entered add-j loop-less loop-again returns-2)
