@@ -14,8 +14,8 @@ ghost use Rattle.rules.specs.Map.{Limits, size};
 ghost use Rattle.rules.specs.Stream.{bitsOf};
 ghost use Rattle.rules.specs.Session.{valueFits, onlyBits, walkFits, allDone, fitAs};
 ghost use Rattle.rules.specs.declared.State.the-variants.{Running, Complete};
-ghost use Rattle.fitness.specs.Parts.{fallsAt, isAt, overAt, allWithin, knownAt, openAt, blankAt, entryOf, entryAt};
-ghost use Rattle.fitness.specs.Parts.{lowestFrom, asksAt};
+ghost use Rattle.fitness.specs.Parts.{fallsAt, isAt, overAt, allWithin, knownAt, openAt, blankAt, entryOf};
+ghost use Rattle.fitness.specs.Parts.{entryAt, lowestFrom, asksAt};
 
 // The first positions are all x.
 pub fn positions_are(k: usize, x: u16, positions: [u16; 7]) -> bool

@@ -1,5 +1,5 @@
-// The record and the answer that a reading leaves: refused, spoiled, held; the end of a walk, and where a run leaves the
-// session.
+// The record and the answer that a reading leaves: refused, spoiled, held; the end of a walk, and where a run leaves
+// the session.
 use rules::ReadAnswer;
 use rules::Session;
 use rules::Stand;
@@ -90,7 +90,7 @@ pub fn refused(number: u32, place: u32) -> Paged
 // Refused by 11 to 18: the map's entries become the mark.
 pub fn spoiled(number: u32, dim: usize, darts: usize, stand: Stand, tables: &mut [u16]) -> Paged
     requires { ⌜ Limits dim darts (now tables) ⌝ }
-    ensures { λ r. ⌜ leftBy r (now (tables .exit)) ≡ leaves (reading.spoiled number (walkAt dim darts stand (now (tables .entry)))) (now (tables .entry)) ⌝ }
+    ensures { λ r. let t = now (tables .entry) in ⌜ leftBy r (now (tables .exit)) ≡ leaves (reading.spoiled number (walkAt dim darts stand t)) t ⌝ }
 {
     let positions = stand.positions;
     let place = steps_of(positions);
@@ -128,7 +128,7 @@ pub fn held(state: State, dim: usize, darts: usize, stand: Stand, waiting: u16, 
 // Is a fill bit set in the rest of the byte where the cursor stands?
 pub fn fill_set(c: Cursor, page: &[u8]) -> bool
     requires { ⌜ CursorFits c (now page) × (c .waiting ≡ 0) ⌝ }
-    ensures { λ r. ⌜ not r ≡ eqb (value (take (length (atHand c (now (page .entry))) % 8) (atHand c (now (page .entry))))) 0 ⌝ }
+    ensures { λ r. let bits = atHand c (now (page .entry)) in ⌜ not r ≡ eqb (value (take (length bits % 8) bits)) 0 ⌝ }
 {
     let at = c.at;
     let bit = c.bit;
@@ -168,7 +168,7 @@ pub fn finish(
     tables: &mut [u16],
 ) -> Paged
     requires { ⌜ Ends dim darts stand c (now tables) (now page) ⌝ }
-    ensures { λ r. ⌜ leftBy r (now (tables .exit)) ≡ leaves (reading.finish (walkAt dim darts stand (now (tables .entry))) (atHand c (now (page .entry)))) (now (tables .entry)) ⌝ }
+    ensures { λ r. let t = now (tables .entry) in ⌜ leftBy r (now (tables .exit)) ≡ leaves (reading.finish (walkAt dim darts stand t) (atHand c (now (page .entry)))) t ⌝ }
 {
     let count = stand.count as usize;
     if count != darts {
@@ -189,7 +189,7 @@ pub fn finish(
 // Where a run leaves the session.
 pub fn settle(dim: usize, darts: usize, r: Ran, page: &[u8], tables: &mut [u16]) -> Paged
     requires { ⌜ Settles dim darts r (now tables) (now page) ⌝ }
-    ensures { λ p. ⌜ leftBy p (now (tables .exit)) ≡ leaves (reading.settle (toldRun dim darts r (now (tables .entry)) (now (page .entry)))) (now (tables .entry)) ⌝ }
+    ensures { λ p. let t = now (tables .entry) in ⌜ leftBy p (now (tables .exit)) ≡ leaves (reading.settle (toldRun dim darts r t (now (page .entry)))) t ⌝ }
 {
     let stand = r.stand;
     let cursor = r.cursor;
@@ -214,7 +214,7 @@ pub fn go_on(
     tables: &mut [u16],
 ) -> Paged
     requires { ⌜ Ready dim darts stand c (now tables) (now page) ⌝ }
-    ensures { λ r. ⌜ leftBy r (now (tables .exit)) ≡ leaves (reading.settle (runAll (walkAt dim darts stand (now (tables .entry))) (atHand c (now (page .entry))))) (now (tables .entry)) ⌝ }
+    ensures { λ r. let t = now (tables .entry) in ⌜ leftBy r (now (tables .exit)) ≡ leaves (reading.settle (runAll (walkAt dim darts stand t) (atHand c (now (page .entry))))) t ⌝ }
 {
     let r = runs::run(tables, dim, darts, stand, c, page);
     settle(dim, darts, r, page, tables)

@@ -1,5 +1,5 @@
-// The run of steps that a page's bits allow, over lent tables and positions: a turn takes a symbol where its step asks for
-// one, and the run ends, waits for bits, or is refused.
+// The run of steps that a page's bits allow, over lent tables and positions: a turn takes a symbol where its step asks
+// for one, and the run ends, waits for bits, or is refused.
 use rules::Stand;
 use rules::WalkNo;
 use steps::Case;
@@ -13,8 +13,8 @@ ghost use Rattle.steps.specs.Steps.{stand, Served};
 ghost use Rattle.runs.specs.Turns.{afterStep, Ready, Turns};
 ghost use Rattle.runs.specs.Runs.{ranAt, Runs};
 
-// What a turn comes to: it goes on, with a rank below which all queues are empty, the count and the cursor, or it waits for
-// bits, or it is refused by a number.
+// What a turn comes to: it goes on, with a rank below which all queues are empty, the count and the cursor, or it waits
+// for bits, or it is refused by a number.
 pub enum Turned {
     On(usize, u16, Cursor),
     Waits,
