@@ -21,7 +21,8 @@ use Rattle.rules.specs.Lists.{allBelow}
 use Rattle.rules.specs.Map.{dimFits, dartsFit, size, place, link, Limits}
 use Rattle.rules.specs.Walk.{head}
 use Rattle.rules.specs.Stream.{bitsOf}
-use Rattle.rules.specs.Session.{walkAt, standOf, walkOf, waitingOf, valueFits, onlyBits, positionsFit, entryFits, entriesFit, walkFits, asks, begins, allDone, fitAs, fit}
+use Rattle.rules.specs.Session.{walkAt, standOf, walkOf, waitingOf, valueFits, onlyBits, positionsFit, entryFits, entriesFit, walkFits, asks, begins}
+use Rattle.rules.specs.Session.{allDone, fitAs, fit}
 use Rattle.rules.proofs.Lists.{and-left, and-right, or-left, or-right, not-both, all-below, below-all, below-same}
 use Rattle.rules.proofs.Places.{place-below, place-row, rank-nth, dart-nth}
 use Rattle.rules.proofs.Codes.{length-bits}
@@ -134,7 +135,11 @@ module _ {f : ℕ → Bool} {a b k bad : ℕ} (r : Tallied f a b k bad) where
   tallied-pass h q = record { upTo = omega arith; few = omega (arith, r .few); told = r .told ∙ sym (rw q at (within-next f a k (omega (arith, r .few)))) }
 
   pub tallied-fail : k < b → f k ≡ false → Tallied f a b (k + 1) (bad + 1)
-  tallied-fail h q = record { upTo = omega arith; few = omega (arith, r .few); told = ne-eqb (bad + 1) 0 (omega arith) ∙ sym (rw q at (within-next f a k (omega (arith, r .few)))) }
+  tallied-fail h q = record {
+    upTo = omega arith;
+    few = omega (arith, r .few);
+    told = ne-eqb (bad + 1) 0 (omega arith) ∙ sym (rw q at (within-next f a k (omega (arith, r .few))));
+  }
 
   pub tallied-end : b ≤ k → eqb bad 0 ≡ allWithin a b f
   tallied-end h = let e : b ≡ k = omega (arith, r .upTo) in rw e (r .told)
@@ -173,7 +178,9 @@ blank-no t k e = ne-eqb (getD t k 0) 65535 e
 below-split : (a b : ℕ) (f : ℕ → Bool) → allBelow (a + b) f ≡ (allBelow b (λ k. f (a + k)) && allBelow a f)
 unfolding allBelow
 below-split a zero f = let e : a + 0 ≡ a = omega arith in rw e
-below-split a (suc b) f = let e : a + suc b ≡ suc (a + b) = omega arith in rw (e, allBelow, below-split a b f) (sym (and-assoc (f (a + b)) (allBelow b (λ k. f (a + k))) (allBelow a f)))
+below-split a (suc b) f =
+    let e : a + suc b ≡ suc (a + b) = omega arith in
+    rw (e, allBelow, below-split a b f) (sym (and-assoc (f (a + b)) (allBelow b (λ k. f (a + k))) (allBelow a f)))
 
 -- a test below k * n is one of k rows of n numbers
 below-rows : (k n : ℕ) (f : ℕ → Bool) → allBelow (k * n) f ≡ allBelow k (λ i. allBelow n (λ d. f (i * n + d)))
@@ -225,11 +232,13 @@ module _ (N n : ℕ) (t : List ℕ) (i : ℕ) (L : Limits N n t) (hi : i ≤ N) 
     unfolding entryOf knownAt allBelow
     knowns =
         let z : x + 0 ≡ x = omega arith in
-        rw (z, and-yes) at (part fits (knownAt t c) 0 p x (omega arith) (λ d h l. entry-known c p d (link N n t i d) hp (omega arith) l ∙ ap (λ (y : ℕ). ltb y c) (entry-here d (omega arith))))
+        let known = λ (d : ℕ) (h : 0 ≤ d) (l : d < p). entry-known c p d (link N n t i d) hp (omega arith) l ∙ ap (λ (y : ℕ). ltb y c) (entry-here d (omega arith)) in
+        rw (z, and-yes) at (part fits (knownAt t c) 0 p x (omega arith) known)
 
     opens : allBelow c fits ≡ (allWithin (x + p) (x + c) (openAt t c) && allBelow p fits)
     unfolding entryOf openAt
-    opens = part fits (openAt t c) p c x hp (λ d h l. entry-open c p d (link N n t i d) h l ∙ ap (λ (y : ℕ). ltb y c || eqb y 65535) (entry-here d (omega arith)))
+    opens =
+        part fits (openAt t c) p c x hp (λ d h l. entry-open c p d (link N n t i d) h l ∙ ap (λ (y : ℕ). ltb y c || eqb y 65535) (entry-here d (omega arith)))
 
     blanks : allBelow n fits ≡ (allWithin (x + c) (x + n) (blankAt t) && allBelow c fits)
     unfolding entryOf blankAt
@@ -242,7 +251,8 @@ module _ (N n : ℕ) (t : List ℕ) (i : ℕ) (L : Limits N n t) (hi : i ≤ N) 
       pub rank-known : not k ≡ true → false ≡ allBelow n fits
       rank-known h = rw (blanks, opens, knowns, ← ek, not-true k h, and-no, and-no)
 
-      pub rank-blank : not k ≡ false → (o : Bool) → o ≡ allWithin (x + p) (x + c) (openAt t c) → not o ≡ false → (r : Bool) → r ≡ allWithin (x + c) (x + n) (blankAt t) → r ≡ allBelow n fits
+      pub rank-blank : not k ≡ false → (o : Bool) → o ≡ allWithin (x + p) (x + c) (openAt t c) → not o ≡ false → (r : Bool)
+          → r ≡ allWithin (x + c) (x + n) (blankAt t) → r ≡ allBelow n fits
       rank-blank hk o eo ho r e = rw (blanks, opens, knowns, ← ek, not-false k hk, ← eo, not-false o ho, and-yes) e
 
 -- all entries, rank by rank
@@ -251,7 +261,8 @@ rankAt N n t c ps i = allBelow n (entryOf N n t c (getD ps i 0) i)
 
 pub by-ranks : (N n : ℕ) (t : List ℕ) (c : ℕ) (ps : List ℕ) → allBelow (suc N) (rankAt N n t c ps) ≡ allBelow (size N n) (entryAt N n t c ps)
 unfolding entryAt
-by-ranks N n t c ps = sym (below-rows (suc N) n (entryAt N n t c ps) ∙ below-same (suc N) _ _ (λ i hi. below-same n _ _ (λ d hd. rw (rank-nth n i d hd, dart-nth n i d hd))))
+by-ranks N n t c ps =
+    sym (below-rows (suc N) n (entryAt N n t c ps) ∙ below-same (suc N) _ _ (λ i hi. below-same n _ _ (λ d hd. rw (rank-nth n i d hd, dart-nth n i d hd))))
 
 -- bits
 pub begins-many : (k x : ℕ) → 13 < k → false ≡ (leb k 13 && ltb x (2 ^ k) && begins (bitsOf k x))
@@ -383,7 +394,9 @@ module _ (s : Session) where
 
       pub done-positions : s .value ≡ 0 → (r : Bool) → r ≡ allBelow (s .dim + 1) (isAt (s .positions) (s .darts)) → r ≡ allDone s
       unfolding allDone isAt
-      done-positions h r e = rw (eq-eqb (s .count) (s .darts) hc, eq-eqb (s .waiting) 0 hw, eq-eqb (s .value) 0 h) (e ∙ (ap (λ (k : ℕ). allBelow k (isAt (s .positions) (s .darts))) (add-one (s .dim)) ∙ sym (and-yes _ ∙ and-yes _)))
+      done-positions h r e =
+          rw (eq-eqb (s .count) (s .darts) hc, eq-eqb (s .waiting) 0 hw, eq-eqb (s .value) 0 h)
+          (e ∙ (ap (λ (k : ℕ). allBelow k (isAt (s .positions) (s .darts))) (add-one (s .dim)) ∙ sym (and-yes _ ∙ and-yes _)))
 
 -- so few entries that their number fits
 pub few-entries : (N n : ℕ) → N ≤ 6 → n ≤ 4096 → (N + 1) * n < 18446744073709551616
@@ -465,12 +478,17 @@ module _ (s : Session) (t : List ℕ) where
       let a = dimFits (s .dim) in
       let b = dartsFit (s .darts) in
       let c = leb (size (s .dim) (s .darts)) (length t) in
-      let all = and-left (a && b && c) (leb 1 (s .count)) (and-left (a && b && c && leb 1 (s .count)) (leb (s .count) (s .darts)) (and-left (a && b && c && leb 1 (s .count) && leb (s .count) (s .darts)) (positionsFit s) (and-left _ (entriesFit s t) e))) in
+      let counted = a && b && c && leb 1 (s .count) in
+      let placed = and-left (counted && leb (s .count) (s .darts)) (positionsFit s) (and-left _ (entriesFit s t) e) in
+      let all = and-left (a && b && c) (leb 1 (s .count)) (and-left counted (leb (s .count) (s .darts)) placed) in
       let d = and-left a b (and-left (a && b) c all) in
       let n = and-right a b (and-left (a && b) c all) in
       record {
         dims = (leb-true 1 (s .dim) (and-left (leb 1 (s .dim)) (leb (s .dim) 6) d), leb-true (s .dim) 6 (and-right (leb 1 (s .dim)) (leb (s .dim) 6) d));
-        darts = (leb-true 1 (s .darts) (and-left (leb 1 (s .darts)) (leb (s .darts) 4096) n), leb-true (s .darts) 4096 (and-right (leb 1 (s .darts)) (leb (s .darts) 4096) n));
+        darts = (
+          leb-true 1 (s .darts) (and-left (leb 1 (s .darts)) (leb (s .darts) 4096) n),
+          leb-true (s .darts) 4096 (and-right (leb 1 (s .darts)) (leb (s .darts) 4096) n),
+        );
         room = leb-true (size (s .dim) (s .darts)) (length t) (and-right (a && b) c all);
       }
 
@@ -501,7 +519,8 @@ module _ (s : Session) (t : List ℕ) where
         unfolding fitAs
         running-still h = rw (← e, not-false w hw, asking, not-true a h)
 
-        pub running-begun : not a ≡ false → (r : Bool) → r ≡ (leb (s .waiting) 13 && ltb (s .value) (2 ^ s .waiting) && begins (bitsOf (s .waiting) (s .value))) → r ≡ fitAs Running s t
+        pub running-begun : not a ≡ false → (r : Bool)
+            → r ≡ (leb (s .waiting) 13 && ltb (s .value) (2 ^ s .waiting) && begins (bitsOf (s .waiting) (s .value))) → r ≡ fitAs Running s t
         unfolding fitAs valueFits waitingOf
         running-begun h r q = rw (← e, not-false w hw, asking, not-false a h) q
 

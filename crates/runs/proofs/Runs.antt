@@ -144,7 +144,9 @@ module _ {N n : ℕ} {s0 : Stand} {c0 : Cursor} {t0 page : List ℕ} {k : ℕ} {
       more-left =
           let q = more-steps in
           let w' = walkAt N n (stand k' ps') t' in
-          rw goes (fuel (size N n) (suc (size N n)) w' (atHand d page) (moves .inv) (unfold steps total walkAt in omega arith) (unfold steps total walkAt in omega arith))
+          rw goes
+          (fuel (size N n) (suc (size N n)) w' (atHand d page) (moves .inv) (unfold steps total walkAt in omega arith)
+          (unfold steps total walkAt in omega arith))
 
       pub going-more : length t' ≡ length t → Going N n s0 c0 t0 page (stand k' ps') d t' × Emptied k' ps' rank
       unfolding Again

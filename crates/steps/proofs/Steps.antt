@@ -160,7 +160,8 @@ module _ {N n k : ℕ} {ps t : List ℕ} {j b e : ℕ} (v : Served N n k ps t j 
 
 -- the step by a symbol, one way through the code at a time
 module _ {N n k : ℕ} {ps t : List ℕ} {j b : ℕ} (v : Served N n k ps t j b Partner.asked) where
-  on : (x : Symbol) → permitted (here v) j b x ≡ true → (rank k' : ℕ) (ps' t' : List ℕ) → walkAt N n (stand k' ps') t' ≡ apply (here v) j b x → Emptied k' ps' rank
+  on : (x : Symbol) → permitted (here v) j b x ≡ true → (rank k' : ℕ) (ps' t' : List ℕ) → walkAt N n (stand k' ps') t' ≡ apply (here v) j b x
+      → Emptied k' ps' rank
       → Steps N n k ps t (symbolStep j b x) (On rank k') ps' t'
   unfolding allow
   on x h rank k' ps' t' e l = goes v (symbolStep j b x) (apply (here v) j b x) (λ rest. rw h) rank k' ps' t' e l

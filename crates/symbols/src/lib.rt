@@ -1,5 +1,5 @@
-// Bits and symbols: a cursor over the bits that wait and a page's bits, and taking one symbol: from three bytes at once,
-// or bit by bit where bits wait or the page ends.
+// Bits and symbols: a cursor over the bits that wait and a page's bits, and taking one symbol: from three bytes at
+// once, or bit by bit where bits wait or the page ends.
 use rules::Symbol;
 use rules::WalkNo;
 ghost use mathlib.Core.Path.{_≡_};

@@ -61,4 +61,17 @@ returns-4 c =
     asks-asked _ _ _ _ _ (seven s) (s .pre .dims .1) _ (l .lowest .ensures) (k .before .if1 .left) _ (k .partner .ensures) (c .enum-told3 .given .1)
 
 pub asks-spec : {M : Type 1} → statement M
-asks-spec = tie.close (tie.spec lowest-requires returns mul-t11 array-read-t14 partner-requires enum-told enum-told-2 enum-told-3 returns-2 returns-3 returns-4)
+asks-spec =
+    tie.close
+    (tie.spec
+    lowest-requires
+    returns
+    mul-t11
+    array-read-t14
+    partner-requires
+    enum-told
+    enum-told-2
+    enum-told-3
+    returns-2
+    returns-3
+    returns-4)

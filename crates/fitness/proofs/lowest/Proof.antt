@@ -53,4 +53,18 @@ returns-2 c =
     sym (l .inv .1 ∙ lowest-over (a .dim + 1) (l .j) (l .entered) (a .t3) (omega arith))
 
 pub lowest-spec : {M : Type 1} → statement M
-lowest-spec = tie.close (tie.spec Inv-loop μ-loop loop-holds mul-if1 array-read-if1 returns mul-entered array-read-entered add-j loop-less loop-again returns-2)
+lowest-spec =
+    tie.close
+    (tie.spec
+    Inv-loop
+    μ-loop
+    loop-holds
+    mul-if1
+    array-read-if1
+    returns
+    mul-entered
+    array-read-entered
+    add-j
+    loop-less
+    loop-again
+    returns-2)

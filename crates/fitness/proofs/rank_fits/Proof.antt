@@ -50,7 +50,20 @@ returns-3 c =
     let k = o .before .before in
     let g = k .before .before in
     let p = g .before .before .pre in
-    rank-blank _ _ _ _ (p .0) (p .1) _ (g .place .ensures) _ _ (p .2) (p .3) _ (k .before .known-fit .ensures) (k .if1 .left) _ (o .before .open-fit .ensures) (o .if2 .left) _ (c .blank-fit .ensures)
+    rank-blank _ _ _ _ (p .0) (p .1) _ (g .place .ensures) _ _ (p .2) (p .3) _ (k .before .known-fit .ensures) (k .if1 .left) _ (o .before .open-fit .ensures)
+    (o .if2 .left) _ (c .blank-fit .ensures)
 
 pub rank-fits-spec : {M : Type 1} → statement M
-rank-fits-spec = tie.close (tie.spec place-requires add-passed add-numbered known-fit-requires returns open-fit-requires returns-2 add-blank-fit blank-fit-requires returns-3)
+rank-fits-spec =
+    tie.close
+    (tie.spec
+    place-requires
+    add-passed
+    add-numbered
+    known-fit-requires
+    returns
+    open-fit-requires
+    returns-2
+    add-blank-fit
+    blank-fit-requires
+    returns-3)

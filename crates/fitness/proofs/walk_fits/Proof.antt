@@ -94,4 +94,24 @@ returns-10 c =
     (sized (f .before .before)) (f .if8 .left) (p .if9 .left) _ (c .entries-fit .ensures)
 
 pub walk-fits-spec : {M : Type 1} → statement M
-walk-fits-spec = tie.close (tie.spec cast-dim cast-darts returns returns-2 returns-3 returns-4 add-if5 mul-if5 returns-5 returns-6 cast-if7 returns-7 positions-fall-requires returns-8 positions-past-requires returns-9 entries-fit-requires returns-10)
+walk-fits-spec =
+    tie.close
+    (tie.spec
+    cast-dim
+    cast-darts
+    returns
+    returns-2
+    returns-3
+    returns-4
+    add-if5
+    mul-if5
+    returns-5
+    returns-6
+    cast-if7
+    returns-7
+    positions-fall-requires
+    returns-8
+    positions-past-requires
+    returns-9
+    entries-fit-requires
+    returns-10)

@@ -33,7 +33,8 @@ returns c =
     let l = c .before .before .before .before .before .before .loop in
     let g = c .before .before .before .before .known-link in
     let f = c .before .before .before .known-link2 in
-    deducing-here (a .dim) (a .darts) (a .tables .now) (a .j) (a .b .0) (l .i) (l .inv) (omega arith) (g .result .0) (g .ensures) (f .result .0) (f .ensures) (c .before .if1 .taken) (c .known-link3 .result .0) (c .known-link3 .ensures)
+    deducing-here (a .dim) (a .darts) (a .tables .now) (a .j) (a .b .0) (l .i) (l .inv) (omega arith) (g .result .0) (g .ensures) (f .result .0) (f .ensures)
+    (c .before .if1 .taken) (c .known-link3 .result .0) (c .known-link3 .ensures)
 
 add-i : tie.Need-add-i Inv-loop μ-loop
 add-i c = omega arith
@@ -47,7 +48,8 @@ loop-again c =
     let l = c .before .before .before .before .before .loop in
     let g = c .before .before .before .known-link in
     let f = c .before .before .known-link2 in
-    deducing-next (a .dim) (a .darts) (a .tables .now) (a .j) (a .b .0) (l .i) (l .inv) (omega arith) (g .result .0) (g .ensures) (f .result .0) (f .ensures) (c .if1 .left)
+    deducing-next (a .dim) (a .darts) (a .tables .now) (a .j) (a .b .0) (l .i) (l .inv) (omega arith) (g .result .0) (g .ensures) (f .result .0) (f .ensures)
+    (c .if1 .left)
 
 returns-2 : tie.Need-returns-2 Inv-loop μ-loop
 returns-2 c =
@@ -56,4 +58,18 @@ returns-2 c =
     deducing-end (a .dim) (a .darts) (a .tables .now) (a .j) (a .b .0) (l .i) (l .inv) (omega arith)
 
 pub deduce-spec : {M : Type 1} → statement M
-deduce-spec = tie.close (tie.spec Inv-loop μ-loop loop-holds add-loop known-link-requires known-link-requires-2 known-link-requires-3 returns add-i loop-less loop-again returns-2)
+deduce-spec =
+    tie.close
+    (tie.spec
+    Inv-loop
+    μ-loop
+    loop-holds
+    add-loop
+    known-link-requires
+    known-link-requires-2
+    known-link-requires-3
+    returns
+    add-i
+    loop-less
+    loop-again
+    returns-2)

@@ -14,7 +14,8 @@ known-link-requires : tie.Need-known-link-requires
 known-link-requires c κs = search needs
 
 returns-3 : tie.Need-returns-3
-returns-3 c = rw (lt-ltb _ _ (c .before .before .before .before .before .if1 .left), ne-eqb _ _ (c .before .before .if2 .left), ← c .before .known-link .ensures)
+returns-3 c =
+    rw (lt-ltb _ _ (c .before .before .before .before .before .if1 .left), ne-eqb _ _ (c .before .before .if2 .left), ← c .before .known-link .ensures)
 
 pub nameable-spec : {M : Type 1} → statement M
 nameable-spec = tie.close (tie.spec returns returns-2 known-link-requires returns-3)

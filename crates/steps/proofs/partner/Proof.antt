@@ -21,7 +21,8 @@ returns-2 : tie.Need-returns-2
 returns-2 c =
     let a = c .before .before .before .before .before .args in
     let f = c .before .before .before .known-link in
-    partner-other (a .dim) (a .darts) (a .tables .now) (a .j) (a .b .0) (f .result .0) (f .ensures) (c .before .if1 .left) (toldPartner (c .deduce .result)) (c .deduce .ensures)
+    partner-other (a .dim) (a .darts) (a .tables .now) (a .j) (a .b .0) (f .result .0) (f .ensures) (c .before .if1 .left) (toldPartner (c .deduce .result))
+    (c .deduce .ensures)
 
 pub partner-spec : {M : Type 1} → statement M
 partner-spec = tie.close (tie.spec known-link-requires returns deduce-requires returns-2)
