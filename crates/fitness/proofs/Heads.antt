@@ -1,6 +1,6 @@
 -- The head of the walk that count and positions stand for, by the search for the lowest queue, and whether its step needs a symbol. Rests on the
 -- rules' Lists and the partner of `steps`.
-use Prim.Native.Nat.{ℕ, zero, suc, _+_, _≤_, _<_}
+use Prim.Native.Nat.{ℕ, zero, suc, _+_, _-_, _≤_, _<_}
 use mathlib.Core.Path.{_≡_, refl, ap, sym}
 use mathlib.Core.Bool.{Bool, true, false, cond}
 use mathlib.Core.List.{List, _∷_}
@@ -16,10 +16,25 @@ use Rattle.rules.specs.Lists.{range}
 use Rattle.rules.specs.Walk.{Head, headFrom, head, Partner, partner}
 use Rattle.rules.specs.Session.{queuesOf, walkAt, needsSymbol, asks}
 use Rattle.rules.proofs.Lists.{range-empty, range-cons}
-use Rattle.walk.specs.Numbers.{lowestFrom}
 use Rattle.steps.specs.Partners.{looking, toldPartner}
 use Rattle.steps.proofs.Partners.{partner-looking}
-use Rattle.fitness.specs.Parts.{asksAt}
+use Rattle.fitness.specs.Parts.{lowestFrom, asksAt}
+
+-- the lowest queue, one turn of the loop at a time
+pub lowest-stop : (k j c : ℕ) (ps : List ℕ) → j < k → getD ps j 0 < c → lowestFrom (k - j) j c ps ≡ j
+unfolding lowestFrom
+lowest-stop k j c ps h l = let e : k - j ≡ suc (k - suc j) = omega arith in rw (e, lowestFrom, lt-ltb (getD ps j 0) c l)
+
+pub lowest-on : (k j c : ℕ) (ps : List ℕ) → j < k → c ≤ getD ps j 0 → lowestFrom (k - j) j c ps ≡ lowestFrom (k - (j + 1)) (j + 1) (getD ps j 0) ps
+unfolding lowestFrom
+lowest-on k j c ps h l =
+    let e : k - j ≡ suc (k - suc j) = omega arith in
+    let e' : j + 1 ≡ suc j = omega arith in
+    rw (e', e, lowestFrom, le-ltb (getD ps j 0) c l)
+
+pub lowest-over : (k j c : ℕ) (ps : List ℕ) → k ≤ j → lowestFrom (k - j) j c ps ≡ j
+unfolding lowestFrom
+lowest-over k j c ps h = let e : k - j ≡ 0 = omega arith in rw e
 
 -- the dart that position r lets go next, if r is below the end of the search
 foundAt : ℕ → ℕ → List ℕ → Head
@@ -55,7 +70,9 @@ module _ (N n : ℕ) (t : List ℕ) (c : ℕ) (ps : List ℕ) (seven : length ps
 
   asks-here : j ≤ N → (p : Partner) → p ≡ partner (looking N n t) j (getD ps j 0) → needsSymbol p ≡ asksAt N n t c ps
   unfolding asksAt asks foundAt
-  asks-here h p e = rw (here, lt-ltb j (suc N) (omega arith), e) (ap needsSymbol (unfold walkAt in sym (partner-looking (walkAt N n (record { count = c; positions = ps }) t) j (getD ps j 0))))
+  asks-here h p e =
+      rw (here, lt-ltb j (suc N) (omega arith), e)
+      (ap needsSymbol (unfold walkAt in sym (partner-looking (walkAt N n (record { count = c; positions = ps }) t) j (getD ps j 0))))
 
   module _ (h : j ≤ N) (x : Case) (ex : toldPartner x ≡ partner (looking N n t) j (getD ps j 0)) where
     pub asks-known : x ≡ Known → false ≡ asksAt N n t c ps

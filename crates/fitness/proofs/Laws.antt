@@ -22,7 +22,8 @@ use Rattle.rules.specs.Map.{dimFits, dartsFit, size, place, link, Limits}
 use Rattle.rules.specs.Walk.{head}
 use Rattle.rules.specs.Stream.{bitsOf}
 use Rattle.rules.specs.Refusals.{among, atHeader, inStep, atEnd, wipes, fitRefused}
-use Rattle.rules.specs.Session.{walkAt, standOf, walkOf, waitingOf, valueFits, onlyBits, positionsFit, entryFits, entriesFit, walkFits, asks, begins, allDone, fitAs, fit}
+use Rattle.rules.specs.Session.{walkAt, standOf, walkOf, waitingOf, valueFits, onlyBits, positionsFit, entryFits, entriesFit, walkFits, asks, begins}
+use Rattle.rules.specs.Session.{allDone, fitAs, fit}
 use Rattle.rules.proofs.Lists.{and-left, and-right, or-left, or-right, not-both, all-below, below-all, below-same}
 use Rattle.rules.proofs.Places.{place-below, place-row, rank-nth, dart-nth}
 use Rattle.rules.proofs.Codes.{length-bits}
@@ -114,14 +115,14 @@ falls-below N c ps e (suc i) h =
     omega (arith, l, falls-below N c ps e i (omega arith))
 
 -- a loop over the numbers from a up to b that counts those that fail the test: it has come to k
-pub record Counted (f : ℕ → Bool) (a b k bad : ℕ) : Type 0 where
+pub record Tallied (f : ℕ → Bool) (a b k bad : ℕ) : Type 0 where
   pub upTo : k ≤ b
   pub few : a + bad ≤ k
   pub told : eqb bad 0 ≡ allWithin a k f
 
-pub counted-start : (f : ℕ → Bool) (a b : ℕ) → a ≤ b → Counted f a b a 0
+pub tallied-start : (f : ℕ → Bool) (a b : ℕ) → a ≤ b → Tallied f a b a 0
 unfolding allWithin allBelow
-counted-start f a b h = let e : a - a ≡ 0 = omega arith in record { upTo = h; few = omega arith; told = rw e }
+tallied-start f a b h = let e : a - a ≡ 0 = omega arith in record { upTo = h; few = omega arith; told = rw e }
 
 within-next : (f : ℕ → Bool) (a k : ℕ) → a ≤ k → allWithin a (k + 1) f ≡ (f k && allWithin a k f)
 unfolding allWithin allBelow
@@ -130,15 +131,19 @@ within-next f a k h =
     let q : a + (k - a) ≡ k = omega arith in
     rw (e, allBelow, q)
 
-module _ {f : ℕ → Bool} {a b k bad : ℕ} (r : Counted f a b k bad) where
-  pub counted-pass : k < b → f k ≡ true → Counted f a b (k + 1) bad
-  counted-pass h q = record { upTo = omega arith; few = omega (arith, r .few); told = r .told ∙ sym (rw q at (within-next f a k (omega (arith, r .few)))) }
+module _ {f : ℕ → Bool} {a b k bad : ℕ} (r : Tallied f a b k bad) where
+  pub tallied-pass : k < b → f k ≡ true → Tallied f a b (k + 1) bad
+  tallied-pass h q = record { upTo = omega arith; few = omega (arith, r .few); told = r .told ∙ sym (rw q at (within-next f a k (omega (arith, r .few)))) }
 
-  pub counted-fail : k < b → f k ≡ false → Counted f a b (k + 1) (bad + 1)
-  counted-fail h q = record { upTo = omega arith; few = omega (arith, r .few); told = ne-eqb (bad + 1) 0 (omega arith) ∙ sym (rw q at (within-next f a k (omega (arith, r .few)))) }
+  pub tallied-fail : k < b → f k ≡ false → Tallied f a b (k + 1) (bad + 1)
+  tallied-fail h q = record {
+    upTo = omega arith;
+    few = omega (arith, r .few);
+    told = ne-eqb (bad + 1) 0 (omega arith) ∙ sym (rw q at (within-next f a k (omega (arith, r .few))));
+  }
 
-  pub counted-end : b ≤ k → eqb bad 0 ≡ allWithin a b f
-  counted-end h = let e : b ≡ k = omega (arith, r .upTo) in rw e (r .told)
+  pub tallied-end : b ≤ k → eqb bad 0 ≡ allWithin a b f
+  tallied-end h = let e : b ≡ k = omega (arith, r .upTo) in rw e (r .told)
 
 -- what each of the three loops asks of an entry
 module _ (t : List ℕ) (c k : ℕ) where
@@ -174,7 +179,9 @@ blank-no t k e = ne-eqb (getD t k 0) 65535 e
 below-split : (a b : ℕ) (f : ℕ → Bool) → allBelow (a + b) f ≡ (allBelow b (λ k. f (a + k)) && allBelow a f)
 unfolding allBelow
 below-split a zero f = let e : a + 0 ≡ a = omega arith in rw e
-below-split a (suc b) f = let e : a + suc b ≡ suc (a + b) = omega arith in rw (e, allBelow, below-split a b f) (sym (and-assoc (f (a + b)) (allBelow b (λ k. f (a + k))) (allBelow a f)))
+below-split a (suc b) f =
+    let e : a + suc b ≡ suc (a + b) = omega arith in
+    rw (e, allBelow, below-split a b f) (sym (and-assoc (f (a + b)) (allBelow b (λ k. f (a + k))) (allBelow a f)))
 
 -- a test below k * n is one of k rows of n numbers
 below-rows : (k n : ℕ) (f : ℕ → Bool) → allBelow (k * n) f ≡ allBelow k (λ i. allBelow n (λ d. f (i * n + d)))
@@ -212,8 +219,8 @@ module _ (c p d x : ℕ) where
 
 -- a rank, whose entries stand from x on: the answers for its three parts
 module _ (N n : ℕ) (t : List ℕ) (i : ℕ) (L : Limits N n t) (hi : i ≤ N) (x : ℕ) (ex : x ≡ place N n i 0) where
-  pub row-within : x + n ≤ length t
-  row-within = omega (arith, place-row N n i (n - 1), place-below N n i (n - 1) hi (omega arith))
+  pub rank-room : x + n ≤ length t
+  rank-room = omega (arith, place-row N n i (n - 1), place-below N n i (n - 1) hi (omega arith))
 
   entry-here : (d : ℕ) → d < n → link N n t i d ≡ getD t (x + d) 0
   entry-here d h = sym (rw (place-row N n i d, ← ex) at (entry-link N n t i d L hi h))
@@ -226,11 +233,13 @@ module _ (N n : ℕ) (t : List ℕ) (i : ℕ) (L : Limits N n t) (hi : i ≤ N) 
     unfolding entryOf knownAt allBelow
     knowns =
         let z : x + 0 ≡ x = omega arith in
-        rw (z, and-yes) at (part fits (knownAt t c) 0 p x (omega arith) (λ d h l. entry-known c p d (link N n t i d) hp (omega arith) l ∙ ap (λ (y : ℕ). ltb y c) (entry-here d (omega arith))))
+        let known = λ (d : ℕ) (h : 0 ≤ d) (l : d < p). entry-known c p d (link N n t i d) hp (omega arith) l ∙ ap (λ (y : ℕ). ltb y c) (entry-here d (omega arith)) in
+        rw (z, and-yes) at (part fits (knownAt t c) 0 p x (omega arith) known)
 
     opens : allBelow c fits ≡ (allWithin (x + p) (x + c) (openAt t c) && allBelow p fits)
     unfolding entryOf openAt
-    opens = part fits (openAt t c) p c x hp (λ d h l. entry-open c p d (link N n t i d) h l ∙ ap (λ (y : ℕ). ltb y c || eqb y 65535) (entry-here d (omega arith)))
+    opens =
+        part fits (openAt t c) p c x hp (λ d h l. entry-open c p d (link N n t i d) h l ∙ ap (λ (y : ℕ). ltb y c || eqb y 65535) (entry-here d (omega arith)))
 
     blanks : allBelow n fits ≡ (allWithin (x + c) (x + n) (blankAt t) && allBelow c fits)
     unfolding entryOf blankAt
@@ -243,7 +252,8 @@ module _ (N n : ℕ) (t : List ℕ) (i : ℕ) (L : Limits N n t) (hi : i ≤ N) 
       pub rank-known : not k ≡ true → false ≡ allBelow n fits
       rank-known h = rw (blanks, opens, knowns, ← ek, not-true k h, and-no, and-no)
 
-      pub rank-blank : not k ≡ false → (o : Bool) → o ≡ allWithin (x + p) (x + c) (openAt t c) → not o ≡ false → (r : Bool) → r ≡ allWithin (x + c) (x + n) (blankAt t) → r ≡ allBelow n fits
+      pub rank-blank : not k ≡ false → (o : Bool) → o ≡ allWithin (x + p) (x + c) (openAt t c) → not o ≡ false → (r : Bool)
+          → r ≡ allWithin (x + c) (x + n) (blankAt t) → r ≡ allBelow n fits
       rank-blank hk o eo ho r e = rw (blanks, opens, knowns, ← ek, not-false k hk, ← eo, not-false o ho, and-yes) e
 
 -- all entries, rank by rank
@@ -252,7 +262,8 @@ rankAt N n t c ps i = allBelow n (entryOf N n t c (getD ps i 0) i)
 
 pub by-ranks : (N n : ℕ) (t : List ℕ) (c : ℕ) (ps : List ℕ) → allBelow (suc N) (rankAt N n t c ps) ≡ allBelow (size N n) (entryAt N n t c ps)
 unfolding entryAt
-by-ranks N n t c ps = sym (below-rows (suc N) n (entryAt N n t c ps) ∙ below-same (suc N) _ _ (λ i hi. below-same n _ _ (λ d hd. rw (rank-nth n i d hd, dart-nth n i d hd))))
+by-ranks N n t c ps =
+    sym (below-rows (suc N) n (entryAt N n t c ps) ∙ below-same (suc N) _ _ (λ i hi. below-same n _ _ (λ d hd. rw (rank-nth n i d hd, dart-nth n i d hd))))
 
 -- bits
 pub begins-many : (k x : ℕ) → 13 < k → false ≡ (leb k 13 && ltb x (2 ^ k) && begins (bitsOf k x))
@@ -329,19 +340,17 @@ module _ (s : Session) where
   unfolding onlyBits
   only-dim h = rw (ne-eqb (s .dim) 0 h)
 
-  module _ (hd : s .dim ≡ 0) where
-    pub only-darts : s .darts ≢ 0 → false ≡ onlyBits s
-    unfolding onlyBits
-    only-darts h = rw (eq-eqb (s .dim) 0 hd, ne-eqb (s .darts) 0 h)
+  pub only-darts : s .darts ≢ 0 → false ≡ onlyBits s
+  unfolding onlyBits
+  only-darts h = rw (ne-eqb (s .darts) 0 h, and-no)
 
-    module _ (hn : s .darts ≡ 0) where
-      pub only-count : s .count ≢ 0 → false ≡ onlyBits s
-      unfolding onlyBits
-      only-count h = rw (eq-eqb (s .dim) 0 hd, eq-eqb (s .darts) 0 hn, ne-eqb (s .count) 0 h)
+  pub only-count : s .count ≢ 0 → false ≡ onlyBits s
+  unfolding onlyBits
+  only-count h = rw (ne-eqb (s .count) 0 h, and-no)
 
-      pub only-positions : s .count ≡ 0 → (r : Bool) → r ≡ allBelow 7 (isAt (s .positions) 0) → r ≡ onlyBits s
-      unfolding onlyBits isAt
-      only-positions h r e = rw (eq-eqb (s .dim) 0 hd, eq-eqb (s .darts) 0 hn, eq-eqb (s .count) 0 h) e
+  pub only-positions : s .dim ≡ 0 → s .darts ≡ 0 → s .count ≡ 0 → (r : Bool) → r ≡ allBelow 7 (isAt (s .positions) 0) → r ≡ onlyBits s
+  unfolding onlyBits isAt
+  only-positions hd hn hc r e = rw (eq-eqb (s .dim) 0 hd, eq-eqb (s .darts) 0 hn, eq-eqb (s .count) 0 hc) e
 
   abbrev fitHeader : Bool
   fitHeader = (eqb (s .waiting) 0 || eqb (s .waiting) 8) && valueFits s && onlyBits s
@@ -383,71 +392,82 @@ module _ (s : Session) where
 
       pub done-positions : s .value ≡ 0 → (r : Bool) → r ≡ allBelow (s .dim + 1) (isAt (s .positions) (s .darts)) → r ≡ allDone s
       unfolding allDone isAt
-      done-positions h r e = rw (eq-eqb (s .count) (s .darts) hc, eq-eqb (s .waiting) 0 hw, eq-eqb (s .value) 0 h) (e ∙ (ap (λ (k : ℕ). allBelow k (isAt (s .positions) (s .darts))) (add-one (s .dim)) ∙ sym (and-yes _ ∙ and-yes _)))
+      done-positions h r e =
+          rw (eq-eqb (s .count) (s .darts) hc, eq-eqb (s .waiting) 0 hw, eq-eqb (s .value) 0 h)
+          (e ∙ (ap (λ (k : ℕ). allBelow k (isAt (s .positions) (s .darts))) (add-one (s .dim)) ∙ sym (and-yes _ ∙ and-yes _)))
 
 -- so few entries that their number fits
 pub few-entries : (N n : ℕ) → N ≤ 6 → n ≤ 4096 → (N + 1) * n < 18446744073709551616
 few-entries N n h k = let a : N + 1 ≤ 7 = omega arith in let l : (N + 1) * n ≤ 7 * 4096 = mul-le-mul a k in omega arith
 
--- what running and complete share, one test after another
+-- N, n, the room and the count pass
+pub record Sized (s : Session) (t : List ℕ) : Type 0 where
+  pub low : 1 ≤ s .dim
+  pub high : s .dim ≤ 6
+  pub some : 1 ≤ s .darts
+  pub most : s .darts ≤ 4096
+  pub room : (s .dim + 1) * s .darts ≤ length t
+  pub first : 1 ≤ s .count
+  pub within : s .count ≤ s .darts
+
+all-sized : {s : Session} {t : List ℕ} → Sized s t
+    → (dimFits (s .dim) && dartsFit (s .darts) && leb (size (s .dim) (s .darts)) (length t) && leb 1 (s .count) && leb (s .count) (s .darts)) ≡ true
+unfolding dimFits dartsFit
+all-sized {s} {t} k = rw (
+  le-leb 1 (s .dim) (k .low),
+  le-leb (s .dim) 6 (k .high),
+  le-leb 1 (s .darts) (k .some),
+  le-leb (s .darts) 4096 (k .most),
+  le-leb (size (s .dim) (s .darts)) (length t) (omega (arith, k .room)),
+  le-leb 1 (s .count) (k .first),
+  le-leb (s .count) (s .darts) (k .within),
+)
+
+-- what running and complete share: a test that fails, one after another
 module _ (s : Session) (t : List ℕ) where
   pub walk-low : s .dim < 1 → false ≡ walkFits s t
   unfolding walkFits dimFits
   walk-low h = rw (lt-leb 1 (s .dim) h)
 
-  module _ (h1 : 1 ≤ s .dim) where
-    pub walk-high : 6 < s .dim → false ≡ walkFits s t
-    unfolding walkFits dimFits
-    walk-high h = rw (le-leb 1 (s .dim) h1, lt-leb (s .dim) 6 h)
+  pub walk-high : 6 < s .dim → false ≡ walkFits s t
+  unfolding walkFits dimFits
+  walk-high h = rw (lt-leb (s .dim) 6 h, and-no)
 
-    module _ (h2 : s .dim ≤ 6) where
-      pub walk-none : s .darts < 1 → false ≡ walkFits s t
-      unfolding walkFits dimFits dartsFit
-      walk-none h = rw (le-leb 1 (s .dim) h1, le-leb (s .dim) 6 h2, lt-leb 1 (s .darts) h)
+  pub walk-none : s .darts < 1 → false ≡ walkFits s t
+  unfolding walkFits dartsFit
+  walk-none h = rw (lt-leb 1 (s .darts) h, and-no)
 
-      module _ (h3 : 1 ≤ s .darts) where
-        pub walk-many : 4096 < s .darts → false ≡ walkFits s t
-        unfolding walkFits dimFits dartsFit
-        walk-many h = rw (le-leb 1 (s .dim) h1, le-leb (s .dim) 6 h2, le-leb 1 (s .darts) h3, lt-leb (s .darts) 4096 h)
+  pub walk-many : 4096 < s .darts → false ≡ walkFits s t
+  unfolding walkFits dartsFit
+  walk-many h = rw (lt-leb (s .darts) 4096 h, and-no, and-no)
 
-        module _ (h4 : s .darts ≤ 4096) where
-          sized : (dimFits (s .dim) && dartsFit (s .darts)) ≡ true
-          unfolding dimFits dartsFit
-          sized = rw (le-leb 1 (s .dim) h1, le-leb (s .dim) 6 h2, le-leb 1 (s .darts) h3, le-leb (s .darts) 4096 h4)
+  pub walk-short : length t < (s .dim + 1) * s .darts → false ≡ walkFits s t
+  unfolding walkFits
+  walk-short h = rw (lt-leb (size (s .dim) (s .darts)) (length t) (omega arith), and-no)
 
-          pub walk-short : length t < (s .dim + 1) * s .darts → false ≡ walkFits s t
-          unfolding walkFits
-          walk-short h = rw (sized, lt-leb (size (s .dim) (s .darts)) (length t) (omega arith))
+  pub walk-empty : s .count < 1 → false ≡ walkFits s t
+  unfolding walkFits
+  walk-empty h = rw (lt-leb 1 (s .count) h, and-no)
 
-          module _ (h5 : (s .dim + 1) * s .darts ≤ length t) where
-            room : leb (size (s .dim) (s .darts)) (length t) ≡ true
-            room = le-leb (size (s .dim) (s .darts)) (length t) (omega arith)
+  pub walk-over : s .darts < s .count → false ≡ walkFits s t
+  unfolding walkFits
+  walk-over h = rw (lt-leb (s .count) (s .darts) h, and-no)
 
-            pub walk-empty : s .count < 1 → false ≡ walkFits s t
-            unfolding walkFits
-            walk-empty h = rw (sized, room, lt-leb 1 (s .count) h)
+  module _ (f : Bool) (ef : f ≡ allBelow (suc (s .dim)) (fallsAt (s .count) (s .positions))) where
+    pub walk-rising : not f ≡ true → false ≡ walkFits s t
+    unfolding walkFits positionsFit fallsAt
+    walk-rising h = rw (← ef, not-true f h, and-no)
 
-            module _ (h6 : 1 ≤ s .count) where
-              pub walk-over : s .darts < s .count → false ≡ walkFits s t
-              unfolding walkFits
-              walk-over h = rw (sized, room, le-leb 1 (s .count) h6, lt-leb (s .count) (s .darts) h)
+    module _ (p : Bool) (ep : p ≡ allBelow 7 (overAt (s .dim) (s .positions))) where
+      pub walk-past : not p ≡ true → false ≡ walkFits s t
+      unfolding walkFits positionsFit overAt
+      walk-past h = rw (← ep, not-true p h, and-no, and-no)
 
-              module _ (h7 : s .count ≤ s .darts) (f : Bool) (ef : f ≡ allBelow (suc (s .dim)) (fallsAt (s .count) (s .positions))) where
-                counted : (dimFits (s .dim) && dartsFit (s .darts) && leb (size (s .dim) (s .darts)) (length t) && leb 1 (s .count) && leb (s .count) (s .darts)) ≡ true
-                counted = rw (sized, room, le-leb 1 (s .count) h6, le-leb (s .count) (s .darts) h7)
-
-                pub walk-rising : not f ≡ true → false ≡ walkFits s t
-                unfolding walkFits positionsFit fallsAt
-                walk-rising h = rw (counted, ← ef, not-true f h)
-
-                module _ (hf : not f ≡ false) (p : Bool) (ep : p ≡ allBelow 7 (overAt (s .dim) (s .positions))) where
-                  pub walk-past : not p ≡ true → false ≡ walkFits s t
-                  unfolding walkFits positionsFit fallsAt overAt
-                  walk-past h = rw (counted, ← ef, not-false f hf, ← ep, not-true p h)
-
-                  pub walk-entries : not p ≡ false → (r : Bool) → r ≡ allBelow (size (s .dim) (s .darts)) (entryAt (s .dim) (s .darts) t (s .count) (s .positions)) → r ≡ walkFits s t
-                  unfolding walkFits positionsFit entriesFit entryFits fallsAt overAt entryAt entryOf entryBy
-                  walk-entries h r e = rw (counted, ← ef, not-false f hf, ← ep, not-false p h) e
+      -- every test but that of the entries passes
+      pub walk-entries : Sized s t → not f ≡ false → not p ≡ false
+          → (r : Bool) → r ≡ allBelow (size (s .dim) (s .darts)) (entryAt (s .dim) (s .darts) t (s .count) (s .positions)) → r ≡ walkFits s t
+      unfolding walkFits positionsFit entriesFit entryFits fallsAt overAt entryAt entryOf entryBy
+      walk-entries k hf hp r e = rw (all-sized k, ← ef, not-false f hf, ← ep, not-false p hp) e
 
   -- what it says of the limits
   fits-limits : walkFits s t ≡ true → Limits (s .dim) (s .darts) t
@@ -456,12 +476,17 @@ module _ (s : Session) (t : List ℕ) where
       let a = dimFits (s .dim) in
       let b = dartsFit (s .darts) in
       let c = leb (size (s .dim) (s .darts)) (length t) in
-      let all = and-left (a && b && c) (leb 1 (s .count)) (and-left (a && b && c && leb 1 (s .count)) (leb (s .count) (s .darts)) (and-left (a && b && c && leb 1 (s .count) && leb (s .count) (s .darts)) (positionsFit s) (and-left _ (entriesFit s t) e))) in
+      let counted = a && b && c && leb 1 (s .count) in
+      let placed = and-left (counted && leb (s .count) (s .darts)) (positionsFit s) (and-left _ (entriesFit s t) e) in
+      let all = and-left (a && b && c) (leb 1 (s .count)) (and-left counted (leb (s .count) (s .darts)) placed) in
       let d = and-left a b (and-left (a && b) c all) in
       let n = and-right a b (and-left (a && b) c all) in
       record {
         dims = (leb-true 1 (s .dim) (and-left (leb 1 (s .dim)) (leb (s .dim) 6) d), leb-true (s .dim) 6 (and-right (leb 1 (s .dim)) (leb (s .dim) 6) d));
-        darts = (leb-true 1 (s .darts) (and-left (leb 1 (s .darts)) (leb (s .darts) 4096) n), leb-true (s .darts) 4096 (and-right (leb 1 (s .darts)) (leb (s .darts) 4096) n));
+        darts = (
+          leb-true 1 (s .darts) (and-left (leb 1 (s .darts)) (leb (s .darts) 4096) n),
+          leb-true (s .darts) 4096 (and-right (leb 1 (s .darts)) (leb (s .darts) 4096) n),
+        );
         room = leb-true (size (s .dim) (s .darts)) (length t) (and-right (a && b) c all);
       }
 
@@ -492,7 +517,8 @@ module _ (s : Session) (t : List ℕ) where
         unfolding fitAs
         running-still h = rw (← e, not-false w hw, asking, not-true a h)
 
-        pub running-begun : not a ≡ false → (r : Bool) → r ≡ (leb (s .waiting) 13 && ltb (s .value) (2 ^ s .waiting) && begins (bitsOf (s .waiting) (s .value))) → r ≡ fitAs Running s t
+        pub running-begun : not a ≡ false → (r : Bool)
+            → r ≡ (leb (s .waiting) 13 && ltb (s .value) (2 ^ s .waiting) && begins (bitsOf (s .waiting) (s .value))) → r ≡ fitAs Running s t
         unfolding fitAs valueFits waitingOf
         running-begun h r q = rw (← e, not-false w hw, asking, not-false a h) q
 

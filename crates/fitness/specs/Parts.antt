@@ -1,7 +1,7 @@
 -- The tests of fitness one by one, over the numbers that each looks at. The rules' definitions are these at a session's fields.
-use Prim.Native.Nat.{ℕ, _+_, _-_, _/_, _%_}
+use Prim.Native.Nat.{ℕ, zero, suc, _+_, _-_, _/_, _%_}
 use mathlib.Core.List.{List, _∷_}
-use mathlib.Core.Bool.{Bool, not, _&&_, _||_, cond}
+use mathlib.Core.Bool.{Bool, true, false, not, _&&_, _||_, cond}
 use lib.ListN.{getD}
 use lib.Dec.{eqb, ltb, leb}
 use Rattle.rules.specs.Lists.{allBelow}
@@ -48,6 +48,12 @@ openAt t c k = ltb (getD t k 0) c || eqb (getD t k 0) mark
 -- it is the mark
 unfoldable pub blankAt : List ℕ → ℕ → Bool
 blankAt t k = eqb (getD t k 0) mark
+
+-- the rank of the lowest queue that isn't empty, of k ranks from j on, or the rank past them
+unfoldable pub lowestFrom : ℕ → ℕ → ℕ → List ℕ → ℕ
+lowestFrom zero j c positions = j
+lowestFrom (suc k) j c positions =
+    elim (ltb (getD positions j 0) c) [ true ↦ j | false ↦ lowestFrom k (suc j) (getD positions j 0) positions ]
 
 -- a queue of the walk that count and positions stand for isn't empty, and its next step needs a symbol
 unfoldable pub asksAt : ℕ → ℕ → List ℕ → ℕ → List ℕ → Bool

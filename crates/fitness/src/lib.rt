@@ -15,7 +15,8 @@ ghost use Rattle.rules.specs.Stream.{bitsOf};
 ghost use Rattle.rules.specs.Refusals.{fitRefused};
 ghost use Rattle.rules.specs.Session.{valueFits, onlyBits, walkFits, allDone, fitAs};
 ghost use Rattle.rules.specs.declared.State.the-variants.{Running, Complete};
-ghost use Rattle.fitness.specs.Parts.{fallsAt, isAt, overAt, allWithin, knownAt, openAt, blankAt, entryOf, entryAt, asksAt};
+ghost use Rattle.fitness.specs.Parts.{fallsAt, isAt, overAt, allWithin, knownAt, openAt, blankAt, entryOf};
+ghost use Rattle.fitness.specs.Parts.{entryAt, lowestFrom, asksAt};
 
 // The first positions are all x.
 pub fn positions_are(k: usize, x: u16, positions: [u16; 7]) -> bool
@@ -81,8 +82,8 @@ pub fn positions_past(dim: usize, positions: [u16; 7]) -> bool
     true
 }
 
-// The darts before a rank's position: each has a link to a numbered dart. This loop and the two after it count what is wrong and do not stop there, so that the
-// compiler can test many entries at once.
+// The darts before a rank's position: each has a link to a numbered dart. This loop and the two after it count what is
+// wrong and do not stop there, so that the compiler can test many entries at once.
 pub fn known_fit(tables: &[u16], from: usize, to: usize, count: u16) -> bool
     requires { ⌜ (from ≤ to) × (to ≤ from + 4096) × (to ≤ length (now tables)) ⌝ }
     ensures { λ r. ⌜ r ≡ allWithin from to (knownAt (now (tables .entry)) count) ⌝ }
@@ -216,6 +217,23 @@ pub fn walk_fits(s: Session, tables: &[u16]) -> bool
     entries_fit(tables, dim, darts, count, positions)
 }
 
+// The rank of the lowest queue that isn't empty, or N+1.
+pub fn lowest(dim: usize, count: u16, positions: [u16; 7]) -> usize
+    requires { ⌜ dim ≤ 6 ⌝ }
+    ensures { λ r. ⌜ r ≡ lowestFrom (dim + 1) 0 count positions ⌝ }
+{
+    let mut entered = count;
+    let mut j = 0;
+    while j <= dim {
+        if positions[j] < entered {
+            return j;
+        }
+        entered = positions[j];
+        j += 1;
+    }
+    j
+}
+
 // A queue isn't empty, and the next step needs a symbol.
 pub fn asks(dim: usize, darts: usize, stand: Stand, tables: &[u16]) -> bool
     requires { ⌜ Limits dim darts (now tables) ⌝ }
@@ -223,7 +241,7 @@ pub fn asks(dim: usize, darts: usize, stand: Stand, tables: &[u16]) -> bool
 {
     let count = stand.count;
     let positions = stand.positions;
-    let j = walk::lowest(dim, count, positions);
+    let j = lowest(dim, count, positions);
     if dim < j {
         return false;
     }

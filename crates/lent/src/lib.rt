@@ -1,4 +1,5 @@
-// The session's calls over a record that the caller lends: each takes the record out, makes the call by value and writes the new record back.
+// The session's calls over a record that the caller lends: each takes the record out, makes the call by value and writes
+// the new record back.
 use rules::ReadAnswer;
 use rules::Session;
 ghost use mathlib.Core.Path.{_≡_};

@@ -13,7 +13,8 @@ use Rattle.records.specs.Lefts.{leftBy}
 -- pages given in order, each to what the call before it has left, each call meeting the contract of `page`
 pub data Fed : List (List ℕ) → Left → Left → Type 0 where
   none : {x : Left} → Fed [] x x
-  more : {p : List ℕ} {ps : List (List ℕ)} {x z : Left} (r : Paged) (u : List ℕ) → leftBy r u ≡ page (x .session) p (x .tables) → Fed ps (leftBy r u) z → Fed (p ∷ ps) x z
+  more : {p : List ℕ} {ps : List (List ℕ)} {x z : Left} (r : Paged) (u : List ℕ) → leftBy r u ≡ page (x .session) p (x .tables) → Fed ps (leftBy r u) z
+      → Fed (p ∷ ps) x z
 
 fed-pages : {ps : List (List ℕ)} {x z : Left} → Fed ps x z → z ≡ pages x ps
 unfolding pages
@@ -30,6 +31,7 @@ pub fed-read : (ps : List (List ℕ)) (t : List ℕ) (z : Left) → Fed ps (open
     → (a : ReadAnswer) (u : List ℕ) → (a ≡ readAnswer (whole ps) t) × (u ≡ readTables (whole ps) t) → (c .answer ≡ a) × (v ≡ u)
 unfolding leftBy
 fed-read ps t z f c v e a u h =
-    let g : record { session = c .session; answer = c .answer; tables = v } ≡ close (pages (opening t) ps .session) (pages (opening t) ps .tables) = e ∙ ap (λ (y : Left). close (y .session) (y .tables)) (fed-pages f) in
+    let g : record { session = c .session; answer = c .answer; tables = v } ≡ close (pages (opening t) ps .session) (pages (opening t) ps .tables) =
+    e ∙ ap (λ (y : Left). close (y .session) (y .tables)) (fed-pages f) in
     let w = pages-read ps t in
     (ap (λ (y : Left). y .answer) g ∙ (w .0 ∙ sym (h .0)), ap (λ (y : Left). y .tables) g ∙ (w .1 ∙ sym (h .1)))

@@ -1,5 +1,5 @@
--- The session's calls, one way through the code at a time: the header's bytes, a fit running session may go on, a complete one takes no byte. Rests on the rules' Fitness and
--- Sessions, and on steps.
+-- The session's calls, one way through the code at a time: the header's bytes, a fit running session may go on, a complete one takes no byte. Rests on the
+-- rules' Fitness and Sessions, and on runs.
 use Prim.Native.Nat.{ℕ, _+_, _*_, _/_, _%_, _≤_, _<_, _^_}
 use mathlib.Core.Path.{_≡_, refl, ap, sym, _∙_}
 use mathlib.Core.Logic.{_≢_, _⊎_, inl, inr}
@@ -18,21 +18,24 @@ use Rattle.symbols.specs.declared.Cursor.{Cursor}
 use Rattle.rules.specs.declared.Stand.{Stand}
 use Rattle.records.specs.declared.Paged.{Paged}
 use Rattle.rules.specs.declared.State.the-variants.{Header, Running, Complete, Closed, Refused}
-use Rattle.rules.specs.Lists.{sum}
 use Rattle.rules.specs.Map.{dimFits, size, blank, Limits}
 use Rattle.rules.specs.Walk.{Walk, start, steps}
 use Rattle.rules.specs.Stream.{bitsOf, value, unpack}
-use Rattle.rules.specs.Reading.{runAll, Reading, spoiled, settle, begun, headerDim, headerDarts, readHeader, readingOf, closing, goodAnswer, plainAnswer, answerOf, tablesOf, readAnswer, readTables}
-use Rattle.rules.specs.Session.{idle, held, store, opened, walkAt, standOf, walkOf, waitingOf, fit, Left, unchanged, leaves, goOn, afterEnd, pageAs, closeAs, ifFit, page, close, recordFor, tablesFor}
+use Rattle.rules.specs.Reading.{runAll, Reading, spoiled, settle, begun, headerDim, headerDarts, readHeader, readingOf, closing, goodAnswer, plainAnswer}
+use Rattle.rules.specs.Reading.{answerOf, tablesOf, readAnswer, readTables}
+use Rattle.rules.specs.Session.{idle, held, store, opened, walkAt, standOf, walkOf, waitingOf, fit, Left, unchanged, leaves, goOn, afterEnd, pageAs}
+use Rattle.rules.specs.Session.{closeAs, ifFit, page, close, recordFor, tablesFor}
 use Rattle.rules.specs.Inner.{Shape}
 use Rattle.rules.proofs.Codes.{value-append, length-bits, value-lt, value-bits}
 use Rattle.rules.proofs.Readings.{begins-13, fits-dim}
 use Rattle.rules.proofs.Fitness.{walk-held, waiting-held, Fits, FitSession, fit-session, fit-shape}
 use Rattle.rules.proofs.Sessions.{record-fit, close-reads}
 use Rattle.symbols.specs.Cursors.{atHand}
-use Rattle.steps.specs.Turns.{Ready}
-use Rattle.steps.proofs.Turns.{walk-session, walk-start, ready-start}
-use Rattle.records.specs.Lefts.{leftBy, idleBy, heldBy}
+use Rattle.steps.specs.Steps.{stand}
+use Rattle.steps.proofs.Steps.{walk-start}
+use Rattle.runs.specs.Turns.{Ready}
+use Rattle.runs.proofs.Turns.{ready-start}
+use Rattle.records.specs.Lefts.{leftBy, idleBy, heldBy, goodBy}
 use Rattle.records.proofs.Lefts.{settle-same}
 use Rattle.reader.specs.Calls.{headed, cursorOf}
 
@@ -54,7 +57,9 @@ module _ (x y : ℕ) (hx : x < 256) (hy : y < 256) (rest : List Bool) where
   halves : value high * 16 + value low ≡ x
   unfolding high low
   halves =
-      let e : value (take 4 (bitsOf 8 x) ++ drop 4 (bitsOf 8 x)) ≡ value (take 4 (bitsOf 8 x)) * 2 ^ length (drop 4 (bitsOf 8 x)) + value (drop 4 (bitsOf 8 x)) = value-append (take 4 (bitsOf 8 x)) (drop 4 (bitsOf 8 x)) in
+      let e : value (take 4 (bitsOf 8 x) ++ drop 4 (bitsOf 8 x))
+      ≡ value (take 4 (bitsOf 8 x)) * 2 ^ length (drop 4 (bitsOf 8 x)) + value (drop 4 (bitsOf 8 x)) =
+      value-append (take 4 (bitsOf 8 x)) (drop 4 (bitsOf 8 x)) in
       sym (rw (low-length, take-append-drop, value-bits 8 x hx) at e)
 
   low-small : value low < 16
@@ -63,13 +68,15 @@ module _ (x y : ℕ) (hx : x < 256) (hy : y < 256) (rest : List Bool) where
   dim-is : headerDim bits ≡ x / 16
   unfolding headerDim
   dim-is =
-      let e : take 4 (bitsOf 8 x ++ (bitsOf 8 y ++ rest)) ≡ high = unfold high in take-append-le 4 (bitsOf 8 x) (bitsOf 8 y ++ rest) (omega (arith, length-bits 8 x)) in
+      let e : take 4 (bitsOf 8 x ++ (bitsOf 8 y ++ rest)) ≡ high =
+      unfold high in take-append-le 4 (bitsOf 8 x) (bitsOf 8 y ++ rest) (omega (arith, length-bits 8 x)) in
       rw e (omega (arith, halves, low-small))
 
   darts-are : headerDarts bits ≡ x % 16 * 256 + y + 1
   unfolding headerDarts
   darts-are =
-      let e : drop 4 (bitsOf 8 x ++ (bitsOf 8 y ++ rest)) ≡ low ++ (bitsOf 8 y ++ rest) = unfold low in drop-append-le 4 (bitsOf 8 x) (bitsOf 8 y ++ rest) (omega (arith, length-bits 8 x)) in
+      let e : drop 4 (bitsOf 8 x ++ (bitsOf 8 y ++ rest)) ≡ low ++ (bitsOf 8 y ++ rest) =
+      unfold low in drop-append-le 4 (bitsOf 8 x) (bitsOf 8 y ++ rest) (omega (arith, length-bits 8 x)) in
       let l : length (low ++ bitsOf 8 y) ≡ 12 = simp length-append (omega (arith, low-length, length-bits 8 y)) in
       let f : take 12 (low ++ (bitsOf 8 y ++ rest)) ≡ low ++ bitsOf 8 y = rw (← append-assoc low (bitsOf 8 y) rest) (take-at (low ++ bitsOf 8 y) rest 12 l) in
       let v : value (low ++ bitsOf 8 y) ≡ value low * 256 + y = rw (length-bits 8 y, value-bits 8 y hy) at (value-append low (bitsOf 8 y)) in
@@ -81,37 +88,44 @@ module _ (x y : ℕ) (hx : x < 256) (hy : y < 256) (rest : List Bool) where
       rw (← append-assoc (bitsOf 8 x) (bitsOf 8 y) rest) (drop-at (bitsOf 8 x ++ bitsOf 8 y) rest 16 l)
 
   -- reading from two whole bytes on
-  pub reading-begun : (t : List ℕ) → readingOf bits t ≡ begun (dimFits (x / 16)) (leb (size (x / 16) (x % 16 * 256 + y + 1)) (length t)) (x / 16) (x % 16 * 256 + y + 1) rest t
+  pub reading-begun : (t : List ℕ)
+      → readingOf bits t ≡ begun (dimFits (x / 16)) (leb (size (x / 16) (x % 16 * 256 + y + 1)) (length t)) (x / 16) (x % 16 * 256 + y + 1) rest t
   unfolding readingOf readHeader
   reading-begun t =
       let l : leb 16 (length bits) ≡ true = le-leb 16 (length bits) (simp length-append (omega (arith, length-bits 8 x, length-bits 8 y))) in
       rw (l, dim-is, darts-are, rest-is)
 
 -- refused before a walk: the tables stay
-pub refused-left : (r : Paged) (nr p : ℕ) (t : List ℕ) → r .session ≡ idleBy (Refused nr p) 0 0 → r .answer ≡ plainAnswer nr p → leftBy r t ≡ leaves (Reading.refused nr p t) t
+pub refused-left : (r : Paged) (nr p : ℕ) (t : List ℕ) → r .session ≡ idleBy (Refused nr p) 0 0 → r .answer ≡ plainAnswer nr p
+    → leftBy r t ≡ leaves (Reading.refused nr p t) t
 unfolding leftBy leaves store idle answerOf tablesOf value
 refused-left r nr p t e f = λ i. record { session = e i; answer = f i; tables = t }
 
 -- the bits of a header that waits
-header-left : (r : Paged) (bits : List Bool) (t : List ℕ) → r .session ≡ idleBy Header (length bits) (value bits) → r .answer ≡ plainAnswer 0 0 → length bits < 16 → leftBy r t ≡ leaves (readingOf bits t) t
+header-left : (r : Paged) (bits : List Bool) (t : List ℕ) → r .session ≡ idleBy Header (length bits) (value bits) → r .answer ≡ plainAnswer 0 0
+    → length bits < 16 → leftBy r t ≡ leaves (readingOf bits t) t
 unfolding leftBy leaves readingOf readHeader
 header-left r bits t e f h = rw (lt-leb 16 (length bits) h) (unfold store idle answerOf tablesOf in λ i. record { session = e i; answer = f i; tables = t })
 
 -- a header that is in: 1, 3, or the walk
 module _ (r : Paged) (N n : ℕ) (bits : List Bool) (t : List ℕ) where
-  pub begin-dim : r .session ≡ idleBy (Refused 1 0) 0 0 → r .answer ≡ plainAnswer 1 0 → dimFits N ≡ false → leftBy r t ≡ leaves (begun (dimFits N) (leb (size N n) (length t)) N n bits t) t
+  pub begin-dim : r .session ≡ idleBy (Refused 1 0) 0 0 → r .answer ≡ plainAnswer 1 0 → dimFits N ≡ false
+      → leftBy r t ≡ leaves (begun (dimFits N) (leb (size N n) (length t)) N n bits t) t
   unfolding begun
   begin-dim e f h = rw h (refused-left r 1 0 t e f)
 
-  pub begin-room : r .session ≡ idleBy (Refused 3 0) 0 0 → r .answer ≡ plainAnswer 3 0 → dimFits N ≡ true → length t < size N n → leftBy r t ≡ leaves (begun (dimFits N) (leb (size N n) (length t)) N n bits t) t
+  pub begin-room : r .session ≡ idleBy (Refused 3 0) 0 0 → r .answer ≡ plainAnswer 3 0 → dimFits N ≡ true → length t < size N n
+      → leftBy r t ≡ leaves (begun (dimFits N) (leb (size N n) (length t)) N n bits t) t
   unfolding begun
   begin-room e f h l = rw (h, lt-leb (size N n) (length t) l) (refused-left r 3 0 t e f)
 
-  pub begin-walk : (u : List ℕ) (c : Cursor) (page : List ℕ) (b : List ℕ) → b ≡ blank (size N n) t → leftBy r u ≡ leaves (settle (runAll (walkAt N n (record { count = 1; positions = replicate 7 0 }) b) (atHand c page))) b
-      → atHand c page ≡ bits → (1 ≤ N) × (N ≤ 6) → (1 ≤ n) × (n ≤ 4096) → size N n ≤ length t → leftBy r u ≡ leaves (begun (dimFits N) (leb (size N n) (length t)) N n bits t) t
+  pub begin-walk : (u : List ℕ) (c : Cursor) (page : List ℕ) (b : List ℕ) → b ≡ blank (size N n) t
+      → leftBy r u ≡ leaves (settle (runAll (walkAt N n (stand 1 (replicate 7 0)) b) (atHand c page))) b
+      → atHand c page ≡ bits → (1 ≤ N) × (N ≤ 6) → (1 ≤ n) × (n ≤ 4096) → size N n ≤ length t
+      → leftBy r u ≡ leaves (begun (dimFits N) (leb (size N n) (length t)) N n bits t) t
   unfolding begun
   begin-walk u c page b eb e ea hN hn l =
-      let w : walkAt N n (record { count = 1; positions = replicate 7 0 }) b ≡ start N n t = rw eb (walk-start N n t (hn .0) (hn .1) (hN .1)) in
+      let w : walkAt N n (stand 1 (replicate 7 0)) b ≡ start N n t = rw eb (walk-start N n t (hn .0) (hn .1) (hN .1)) in
       rw (fits-dim N (hN .0) (hN .1), le-leb (size N n) (length t) l)
       (e ∙ (rw (w, ea) (settle-same (runAll (start N n t) bits) b t)))
 
@@ -134,12 +148,14 @@ pub waits-byte : (k : ℕ) → (k ≡ 0) ⊎ (k ≡ 8) → k ≢ 0 → k ≡ 8
 waits-byte k (inl e) h = absurd (h e)
 waits-byte k (inr e) h = e
 
-pub header-none : (r : Paged) (s : Session) (page t : List ℕ) → s .waiting ≡ 0 → length page ≡ 0 → r .session ≡ idleBy Header 0 0 → r .answer ≡ plainAnswer 0 0 → leftBy r t ≡ leaves (readingOf (waitingOf s ++ unpack page) t) t
+pub header-none : (r : Paged) (s : Session) (page t : List ℕ) → s .waiting ≡ 0 → length page ≡ 0 → r .session ≡ idleBy Header 0 0
+    → r .answer ≡ plainAnswer 0 0 → leftBy r t ≡ leaves (readingOf (waitingOf s ++ unpack page) t) t
 unfolding unpack value
 header-none r s [] t z l e f = rw (waiting-none s z) (header-left r [] t e f (omega arith))
 header-none r s (x ∷ page) t z l e f = absurd (omega arith)
 
-pub header-one : (r : Paged) (s : Session) (page t : List ℕ) → s .waiting ≡ 0 → length page ≡ 1 → getD page 0 0 < 256 → r .session ≡ idleBy Header 8 (getD page 0 0) → r .answer ≡ plainAnswer 0 0
+pub header-one : (r : Paged) (s : Session) (page t : List ℕ) → s .waiting ≡ 0 → length page ≡ 1 → getD page 0 0 < 256
+    → r .session ≡ idleBy Header 8 (getD page 0 0) → r .answer ≡ plainAnswer 0 0
     → leftBy r t ≡ leaves (readingOf (waitingOf s ++ unpack page) t) t
 unfolding unpack
 header-one r s [] t z l b e f = absurd (omega arith)
@@ -147,15 +163,18 @@ header-one r s (x ∷ []) t z l b e f =
     rw (waiting-none s z, append-nil) (header-left r (bitsOf 8 x) t (e ∙ rw (length-bits 8 x, value-bits 8 x b)) f (omega (arith, length-bits 8 x)))
 header-one r s (x ∷ y ∷ page) t z l b e f = absurd (omega arith)
 
-pub header-kept : (r : Paged) (s : Session) (page t : List ℕ) → s .waiting ≡ 8 → length page ≡ 0 → s .value < 256 → r .session ≡ idleBy Header 8 (s .value) → r .answer ≡ plainAnswer 0 0
+pub header-kept : (r : Paged) (s : Session) (page t : List ℕ) → s .waiting ≡ 8 → length page ≡ 0 → s .value < 256 → r .session ≡ idleBy Header 8 (s .value)
+    → r .answer ≡ plainAnswer 0 0
     → leftBy r t ≡ leaves (readingOf (waitingOf s ++ unpack page) t) t
 unfolding unpack
 header-kept r s [] t z l b e f =
-    rw (waiting-byte s z, append-nil) (header-left r (bitsOf 8 (s .value)) t (e ∙ rw (length-bits 8 (s .value), value-bits 8 (s .value) b)) f (omega (arith, length-bits 8 (s .value))))
+    rw (waiting-byte s z, append-nil)
+    (header-left r (bitsOf 8 (s .value)) t (e ∙ rw (length-bits 8 (s .value), value-bits 8 (s .value) b)) f (omega (arith, length-bits 8 (s .value))))
 header-kept r s (x ∷ page) t z l b e f = absurd (omega arith)
 
 pub header-two : (r : Paged) (s : Session) (page t u : List ℕ) → s .waiting ≡ 0 → 2 ≤ length page → getD page 0 0 < 256 → getD page 1 0 < 256
-    → leftBy r u ≡ leaves (headed (getD page 0 0) (getD page 1 0) (unpack (drop 2 page)) t) t → leftBy r u ≡ leaves (readingOf (waitingOf s ++ unpack page) t) t
+    → leftBy r u ≡ leaves (headed (getD page 0 0) (getD page 1 0) (unpack (drop 2 page)) t) t
+    → leftBy r u ≡ leaves (readingOf (waitingOf s ++ unpack page) t) t
 unfolding unpack headed
 header-two r s [] t u z l a b e = absurd (omega arith)
 header-two r s (x ∷ []) t u z l a b e = absurd (omega arith)
@@ -184,9 +203,11 @@ pub begin-blank : (N n : ℕ) (t b : List ℕ) → b ≡ blank ((N + 1) * n) t �
 begin-blank N n t b e = e ∙ ap (λ (k : ℕ). blank k t) (size-is N n)
 
 pub begin-ready : (N n at : ℕ) (t page : List ℕ) → (1 ≤ N) × (N ≤ 6) → (1 ≤ n) × (n ≤ 4096) → (b : List ℕ) → b ≡ blank ((N + 1) * n) t → at ≤ length page
-    → Ready N n (record { count = 1; positions = replicate 7 0 }) (record { waiting = 0; value = 0; at = at; bit = 0 }) b page
+    → Ready N n (stand 1 (replicate 7 0)) (record { waiting = 0; value = 0; at = at; bit = 0 }) b page
 begin-ready N n at t page hN hn b e h =
-    rw (begin-blank N n t b e) (ready-start N n (record { waiting = 0; value = 0; at = at; bit = 0 }) t page hN hn (record { few = omega arith; holds = omega arith; within = h; inByte = omega arith }) refl)
+    rw (begin-blank N n t b e)
+    (ready-start N n (record { waiting = 0; value = 0; at = at; bit = 0 }) t page hN hn
+    (record { few = omega arith; holds = omega arith; within = h; inByte = omega arith }) refl)
 
 -- states are told apart
 abbrev stateNo : State → ℕ
@@ -233,7 +254,7 @@ module _ (s : Session) (t : List ℕ) (seven : length (s .positions) ≡ 7) (e :
         where
           walking : s ≡ held Running w bs → t ≡ w .links → Ready (s .dim) (s .darts) (standOf s) (cursorOf s) t page
           walking es et =
-              let p : walkAt (s .dim) (s .darts) (standOf s) t ≡ w = sym (walk-session s t) ∙ ((λ i. walkOf (es i) (et i)) ∙ walk-held Running w bs (v .shape)) in
+              let p : walkAt (s .dim) (s .darts) (standOf s) t ≡ w = (λ i. walkOf (es i) (et i)) ∙ walk-held Running w bs (v .shape) in
               let b : bitsOf (s .waiting) (s .value) ≡ bs = unfold waitingOf in ap waitingOf es ∙ waiting-held Running w bs in
               let ed : s .dim ≡ w .dim = unfold held in ap (λ (x : Session). x .dim) es in
               let ew : s .waiting ≡ length bs = unfold held in ap (λ (x : Session). x .waiting) es in
@@ -241,7 +262,8 @@ module _ (s : Session) (t : List ℕ) (seven : length (s .positions) ≡ 7) (e :
               record {
                 inv = rw p v;
                 dims = omega (arith, d, ed);
-                fits = record { few = omega (arith, ew, begins-13 bs (a .begun)); holds = rw (ew, ev) (value-lt bs); within = omega arith; inByte = omega arith };
+                fits =
+                    record { few = omega (arith, ew, begins-13 bs (a .begun)); holds = rw (ew, ev) (value-lt bs); within = omega arith; inByte = omega arith };
                 begun = inr (rw (p, b) a);
               }
       from _ (Fits.complete v d h n) es et = unfold store held in other (s .state) Running Complete q (ap (λ (x : Session). x .state) es) (omega arith)
@@ -287,37 +309,49 @@ running-may s k ek t page y at h =
 
 -- calls on the walk of a record
 module _ (r : Paged) (s : Session) (k : Stand) (ek : k ≡ standOf s) (t : List ℕ) where
-  abbrev answerBy : Stand → ReadAnswer
-  answerBy x = record { number = 0; place = 0; steps = sum (x .positions); dim = s .dim; darts = s .darts }
-
   walk-of : walkAt (s .dim) (s .darts) k t ≡ walkOf s t
-  walk-of = ap (λ (x : Stand). walkAt (s .dim) (s .darts) x t) ek ∙ sym (walk-session s t)
+  walk-of = ap (λ (x : Stand). walkAt (s .dim) (s .darts) x t) ek
 
-  pub running-goes : (page u : List ℕ) → leftBy r u ≡ leaves (settle (runAll (walkAt (s .dim) (s .darts) k t) (atHand (cursorOf s) page))) t → leftBy r u ≡ leaves (goOn s (unpack page) t) t
+  pub running-goes : (page u : List ℕ) → leftBy r u ≡ leaves (settle (runAll (walkAt (s .dim) (s .darts) k t) (atHand (cursorOf s) page))) t
+      → leftBy r u ≡ leaves (goOn s (unpack page) t) t
   unfolding goOn atHand waitingOf
   running-goes page u e = rw walk-of at e
 
-  complete-left : r .session ≡ heldBy Complete (s .dim) (s .darts) k 0 0 → r .answer ≡ answerBy k → leftBy r t ≡ leaves (Reading.complete (walkOf s t)) t
+  complete-left : r .session ≡ heldBy Complete (s .dim) (s .darts) k 0 0 → r .answer ≡ goodBy (s .dim) (s .darts) k
+      → leftBy r t ≡ leaves (Reading.complete (walkOf s t)) t
   unfolding leftBy leaves store held answerOf goodAnswer tablesOf steps walkAt value
-  complete-left e f = λ i. record { session = (e ∙ ap (λ (x : Stand). heldBy Complete (s .dim) (s .darts) x 0 0) ek) i; answer = (f ∙ ap answerBy ek) i; tables = t }
+  complete-left e f = λ i. record {
+    session = (e ∙ ap (λ (x : Stand). heldBy Complete (s .dim) (s .darts) x 0 0) ek) i;
+    answer = (f ∙ ap (goodBy (s .dim) (s .darts)) ek) i;
+    tables = t;
+  }
 
-  pub closed-left : r .session ≡ heldBy Closed (s .dim) (s .darts) k 0 0 → r .answer ≡ answerBy k → leftBy r t ≡ leaves (closing (Reading.complete (walkOf s t)) t) t
+  pub closed-left : r .session ≡ heldBy Closed (s .dim) (s .darts) k 0 0 → r .answer ≡ goodBy (s .dim) (s .darts) k
+      → leftBy r t ≡ leaves (closing (Reading.complete (walkOf s t)) t) t
   unfolding leftBy leaves closing store held answerOf goodAnswer tablesOf steps walkAt value
-  closed-left e f = λ i. record { session = (e ∙ ap (λ (x : Stand). heldBy Closed (s .dim) (s .darts) x 0 0) ek) i; answer = (f ∙ ap answerBy ek) i; tables = t }
+  closed-left e f = λ i. record {
+    session = (e ∙ ap (λ (x : Stand). heldBy Closed (s .dim) (s .darts) x 0 0) ek) i;
+    answer = (f ∙ ap (goodBy (s .dim) (s .darts)) ek) i;
+    tables = t;
+  }
 
-  pub complete-none : (page : List ℕ) → length page ≡ 0 → r .session ≡ heldBy Complete (s .dim) (s .darts) k 0 0 → r .answer ≡ answerBy k → leftBy r t ≡ leaves (afterEnd (walkOf s t) (unpack page)) t
+  pub complete-none : (page : List ℕ) → length page ≡ 0 → r .session ≡ heldBy Complete (s .dim) (s .darts) k 0 0 → r .answer ≡ goodBy (s .dim) (s .darts) k
+      → leftBy r t ≡ leaves (afterEnd (walkOf s t) (unpack page)) t
   unfolding unpack afterEnd
   complete-none [] l e f = complete-left e f
   complete-none (x ∷ page) l e f = absurd (omega arith)
 
-  pub complete-more : (page u : List ℕ) → length page ≢ 0 → leftBy r u ≡ leaves (spoiled 18 (walkAt (s .dim) (s .darts) k t)) t → leftBy r u ≡ leaves (afterEnd (walkOf s t) (unpack page)) t
+  pub complete-more : (page u : List ℕ) → length page ≢ 0 → leftBy r u ≡ leaves (spoiled 18 (walkAt (s .dim) (s .darts) k t)) t
+      → leftBy r u ≡ leaves (afterEnd (walkOf s t) (unpack page)) t
   unfolding unpack
   complete-more [] u l e = absurd (l refl)
   complete-more (x ∷ page) u l e =
-      let m : afterEnd (walkOf s t) (bitsOf 8 x ++ unpack page) ≡ spoiled 18 (walkOf s t) = after-more (walkOf s t) (bitsOf 8 x ++ unpack page) (simp length-append (omega (arith, length-bits 8 x))) in
+      let m : afterEnd (walkOf s t) (bitsOf 8 x ++ unpack page) ≡ spoiled 18 (walkOf s t) =
+      after-more (walkOf s t) (bitsOf 8 x ++ unpack page) (simp length-append (omega (arith, length-bits 8 x))) in
       rw m (rw walk-of at e)
 
-  pub close-running : (u : List ℕ) → leftBy r u ≡ leaves (spoiled 11 (walkAt (s .dim) (s .darts) k t)) t → leftBy r u ≡ leaves (closing (Reading.running (walkOf s t) (waitingOf s)) t) t
+  pub close-running : (u : List ℕ) → leftBy r u ≡ leaves (spoiled 11 (walkAt (s .dim) (s .darts) k t)) t
+      → leftBy r u ≡ leaves (closing (Reading.running (walkOf s t) (waitingOf s)) t) t
   unfolding closing
   close-running u e = rw walk-of at e
 
@@ -369,9 +403,11 @@ module _ (r : Paged) (bytes t u : List ℕ) (o : Session) (eo : o ≡ opened) (e
   pub read-fit : fit (r .session) u ≡ true
   read-fit = (λ i. fit (record-read i) (tables-read i)) ∙ record-fit bytes t
 
-  pub read-closed : (q : Paged) (v : List ℕ) → leftBy q v ≡ closeAs (r .session .state) (r .session) u → (q .answer ≡ readAnswer bytes t) × (v ≡ readTables bytes t)
+  pub read-closed : (q : Paged) (v : List ℕ) → leftBy q v ≡ closeAs (r .session .state) (r .session) u
+      → (q .answer ≡ readAnswer bytes t) × (v ≡ readTables bytes t)
   unfolding leftBy
   read-closed q v f =
-      let g : record { session = q .session; answer = q .answer; tables = v } ≡ close (recordFor bytes t) (tablesFor bytes t) = close-as (r .session) u (leftBy q v) read-fit f ∙ (λ i. close (record-read i) (tables-read i)) in
+      let g : record { session = q .session; answer = q .answer; tables = v } ≡ close (recordFor bytes t) (tablesFor bytes t) =
+      close-as (r .session) u (leftBy q v) read-fit f ∙ (λ i. close (record-read i) (tables-read i)) in
       let c = close-reads bytes t in
       (ap (λ (x : Left). x .answer) g ∙ c .0, ap (λ (x : Left). x .tables) g ∙ c .1)

@@ -13,16 +13,16 @@ ghost use Prim.Native.Nat.{_≤_, _<_};
 ghost use lib.ListN.{length, drop};
 ghost use Rattle.rules.specs.Map.{Limits};
 ghost use Rattle.rules.specs.Stream.{unpack};
-ghost use Rattle.rules.specs.Reading.{readAnswer, readTables, readingOf};
+ghost use Rattle.rules.specs.Reading.{plainAnswer, readAnswer, readTables, readingOf};
 ghost use Rattle.rules.specs.Session.{leaves, waitingOf, walkOf, goOn, afterEnd, pageAs, closeAs, standOf};
-ghost use Rattle.steps.specs.Turns.{Ready};
+ghost use Rattle.runs.specs.Turns.{Ready};
 ghost use Rattle.records.specs.Lefts.{leftBy, idleBy};
 ghost use Rattle.reader.specs.Calls.{headed, cursorOf};
 
 // Both header bytes are in; the page goes on at a byte of it.
 pub fn begin(first: u8, second: u8, at: usize, page: &[u8], tables: &mut [u16]) -> Paged
     requires { ⌜ at ≤ length (now page) ⌝ }
-    ensures { λ r. ⌜ leftBy r (now (tables .exit)) ≡ leaves (headed first second (unpack (drop at (now (page .entry)))) (now (tables .entry))) (now (tables .entry)) ⌝ }
+    ensures { λ r. let t = now (tables .entry) in ⌜ leftBy r (now (tables .exit)) ≡ leaves (headed first second (unpack (drop at (now (page .entry)))) t) t ⌝ }
 {
     let dim = (first / 16) as usize;
     let darts = (first % 16) as usize * 256 + second as usize + 1;
@@ -52,7 +52,7 @@ pub fn begin(first: u8, second: u8, at: usize, page: &[u8], tables: &mut [u16]) 
 
 // Fewer than two bytes of the header wait.
 pub fn header_waits(waiting: u16, value: u16) -> Paged
-    ensures { λ r. ⌜ (r .session ≡ idleBy State.Header waiting value) × (r .answer ≡ Rattle.rules.specs.Reading.plainAnswer 0 0) ⌝ }
+    ensures { λ r. ⌜ (r .session ≡ idleBy State.Header waiting value) × (r .answer ≡ plainAnswer 0 0) ⌝ }
 {
     let session = records::idle(State::Header, waiting, value);
     let answer = records::plain(0, 0);
@@ -62,7 +62,7 @@ pub fn header_waits(waiting: u16, value: u16) -> Paged
 // A page on a header session with no bits or eight.
 pub fn page_header(s: Session, page: &[u8], tables: &mut [u16]) -> Paged
     requires { ⌜ ((s .waiting ≡ 0) ⊎ (s .waiting ≡ 8)) × (s .value < 256) ⌝ }
-    ensures { λ r. ⌜ leftBy r (now (tables .exit)) ≡ leaves (readingOf (waitingOf s ++ unpack (now (page .entry))) (now (tables .entry))) (now (tables .entry)) ⌝ }
+    ensures { λ r. let t = now (tables .entry) in ⌜ leftBy r (now (tables .exit)) ≡ leaves (readingOf (waitingOf s ++ unpack (now (page .entry))) t) t ⌝ }
 {
     if s.waiting == 0 {
         if page.len() == 0 {
@@ -82,7 +82,7 @@ pub fn page_header(s: Session, page: &[u8], tables: &mut [u16]) -> Paged
 // A page on a running session: what waits comes first.
 pub fn page_running(s: Session, page: &[u8], tables: &mut [u16]) -> Paged
     requires { ⌜ Ready (s .dim) (s .darts) (standOf s) (cursorOf s) (now tables) (now page) ⌝ }
-    ensures { λ r. ⌜ leftBy r (now (tables .exit)) ≡ leaves (goOn s (unpack (now (page .entry))) (now (tables .entry))) (now (tables .entry)) ⌝ }
+    ensures { λ r. let t = now (tables .entry) in ⌜ leftBy r (now (tables .exit)) ≡ leaves (goOn s (unpack (now (page .entry))) t) t ⌝ }
 {
     let stand = rules::stand_of(s);
     let c = Cursor {
@@ -97,7 +97,7 @@ pub fn page_running(s: Session, page: &[u8], tables: &mut [u16]) -> Paged
 // A byte on a complete session is 18.
 pub fn page_complete(s: Session, page: &[u8], tables: &mut [u16]) -> Paged
     requires { ⌜ Limits (s .dim) (s .darts) (now tables) ⌝ }
-    ensures { λ r. ⌜ leftBy r (now (tables .exit)) ≡ leaves (afterEnd (walkOf s (now (tables .entry))) (unpack (now (page .entry)))) (now (tables .entry)) ⌝ }
+    ensures { λ r. let t = now (tables .entry) in ⌜ leftBy r (now (tables .exit)) ≡ leaves (afterEnd (walkOf s t) (unpack (now (page .entry)))) t ⌝ }
 {
     let stand = rules::stand_of(s);
     if page.len() == 0 {

@@ -30,7 +30,8 @@ low-bits : (b j k x : ℕ) → k ≡ b + j → x < 2 ^ k → value (drop b (bits
 low-bits b j k x e h =
     let bs = bitsOf k x in
     let l : length (drop b bs) ≡ j = simp length-drop (omega (arith, length-bits k x)) in
-    let q : value (take b bs) * 2 ^ j + value (drop b bs) ≡ x = rw l at (sym (value-append (take b bs) (drop b bs))) ∙ (ap value (take-append-drop b bs) ∙ value-bits k x h) in
+    let q : value (take b bs) * 2 ^ j + value (drop b bs) ≡ x =
+    rw l at (sym (value-append (take b bs) (drop b bs))) ∙ (ap value (take-append-drop b bs) ∙ value-bits k x h) in
     let s : value (drop b bs) < 2 ^ j = rw l at (value-lt (drop b bs)) in
     sym (sym (ap (λ (y : ℕ). y % 2 ^ j) q) ∙ low (value (take b bs)) j s)
 
@@ -57,7 +58,9 @@ module _ (c : Cursor) (page : List ℕ) (fits : CursorFits c page) (none : c .wa
     hand-byte =
         let x = getD page (c .at) 0 in
         let l = length-bits 8 x in
-        hand-page ∙ (ap (λ (l : List ℕ). drop (c .bit) (unpack l)) (drop-cons page (c .at) 0 h) ∙ drop-append-le (c .bit) (bitsOf 8 x) (unpack (drop (suc (c .at)) page)) (omega (arith, fits .inByte)))
+        hand-page
+        ∙ (ap (λ (l : List ℕ). drop (c .bit) (unpack l)) (drop-cons page (c .at) 0 h)
+        ∙ drop-append-le (c .bit) (bitsOf 8 x) (unpack (drop (suc (c .at)) page)) (omega (arith, fits .inByte)))
 
     byte-length : length (drop (c .bit) (bitsOf 8 (getD page (c .at) 0))) ≡ 8 - c .bit
     byte-length = simp length-drop (omega (arith, length-bits 8 (getD page (c .at) 0)))

@@ -24,20 +24,22 @@ use Rattle.rules.specs.Session.{Left, idle, held, store, leaves, walkAt}
 use Rattle.symbols.specs.declared.Cursor.{Cursor}
 use Rattle.symbols.specs.Cursors.{atHand}
 use Rattle.rules.specs.declared.Stand.{Stand}
-use Rattle.steps.specs.declared.Turned.{Turned}
-use Rattle.steps.specs.declared.Signal.{Signal}
-use Rattle.steps.specs.declared.Signal.the-variants.{More, Ended, Waits, Refused}
-use Rattle.steps.specs.Turns.{signalRun, toldRun, Runs}
+use Rattle.runs.specs.declared.Ran.{Ran}
+use Rattle.runs.specs.declared.Signal.{Signal}
+use Rattle.runs.specs.declared.Signal.the-variants.{Ended, Waits, Refused}
+use Rattle.runs.specs.Runs.{signalRun, toldRun, Runs}
 use Rattle.records.specs.declared.Paged.{Paged}
-use Rattle.records.specs.Lefts.{leftBy, idleBy, heldBy, Settles, Closes}
+use Rattle.records.specs.Lefts.{leftBy, idleBy, heldBy, goodBy, Settles}
 
-left-of : (r : Paged) (t' : List ℕ) (s : Session) (a : ReadAnswer) (t : List ℕ) → r .session ≡ s → r .answer ≡ a → t' ≡ t → leftBy r t' ≡ record { session = s; answer = a; tables = t }
+left-of : (r : Paged) (t' : List ℕ) (s : Session) (a : ReadAnswer) (t : List ℕ) → r .session ≡ s → r .answer ≡ a → t' ≡ t
+    → leftBy r t' ≡ record { session = s; answer = a; tables = t }
 unfolding leftBy
 left-of r t' s a t p q e = λ i. record { session = p i; answer = q i; tables = e i }
 
 -- the steps of a good answer
-pub answer-steps : {p q : ℕ} (N n : ℕ) → p ≡ q → _≡_ {A = ReadAnswer} (record { number = 0; place = 0; steps = p; dim = N; darts = n }) (record { number = 0; place = 0; steps = q; dim = N; darts = n })
-answer-steps N n e = λ i. record { number = 0; place = 0; steps = e i; dim = N; darts = n }
+pub answer-steps : {p : ℕ} (N n : ℕ) (s : Stand) → p ≡ sum (s .positions)
+    → _≡_ {A = ReadAnswer} (record { number = 0; place = 0; steps = p; dim = N; darts = n }) (goodBy N n s)
+answer-steps N n s e = λ i. record { number = 0; place = 0; steps = e i; dim = N; darts = n }
 
 -- refused, and the map's entries are the mark
 pub spoiled-left : (nr N n : ℕ) (s : Stand) (t t' : List ℕ) (r : Paged) (p : ℕ) → p ≡ sum (s .positions) → t' ≡ blank ((N + 1) * n) t
@@ -51,17 +53,17 @@ spoiled-left nr N n s t t' r p ep et h =
     (et ∙ ap (λ (x : ℕ). blank x t) k)
 
 -- a walk is held
-module _ (N n : ℕ) (s : Stand) (t : List ℕ) (r : Paged)
-    (answers : r .answer ≡ record { number = 0; place = 0; steps = sum (s .positions); dim = N; darts = n }) where
+module _ (N n : ℕ) (s : Stand) (t : List ℕ) (r : Paged) (answers : r .answer ≡ goodBy N n s) where
   pub complete-left : r .session ≡ heldBy state.Complete N n s 0 0 → leftBy r t ≡ leaves (Reading.complete (walkAt N n s t)) t
   unfolding leaves store held answerOf goodAnswer tablesOf steps walkAt value
   complete-left e =
-      left-of r t (heldBy state.Complete N n s 0 0) (record { number = 0; place = 0; steps = sum (s .positions); dim = N; darts = n }) t e answers refl
+      left-of r t (heldBy state.Complete N n s 0 0) (goodBy N n s) t e answers refl
 
-  pub running-left : (bs : List Bool) (k v : ℕ) → k ≡ length bs → v ≡ value bs → r .session ≡ heldBy state.Running N n s k v → leftBy r t ≡ leaves (Reading.running (walkAt N n s t) bs) t
+  pub running-left : (bs : List Bool) (k v : ℕ) → k ≡ length bs → v ≡ value bs → r .session ≡ heldBy state.Running N n s k v
+      → leftBy r t ≡ leaves (Reading.running (walkAt N n s t) bs) t
   unfolding leaves store held answerOf goodAnswer tablesOf steps walkAt
   running-left bs k v ek ev e =
-      left-of r t (heldBy state.Running N n s (length bs) (value bs)) (record { number = 0; place = 0; steps = sum (s .positions); dim = N; darts = n }) t
+      left-of r t (heldBy state.Running N n s (length bs) (value bs)) (goodBy N n s) t
       (e ∙ (ap (λ (x : ℕ). heldBy state.Running N n s x v) ek ∙ ap (λ (x : ℕ). heldBy state.Running N n s (length bs) x) ev)) answers refl
 
 -- the walk's end, test by test
@@ -118,20 +120,6 @@ module _ (w : Walk) (bs : List Bool) (t : List ℕ) (l : Left) (x : Signal) wher
   unfolding settle signalRun
   settled-waits q e = rw q e
 
--- what a signal owes
-module _ (c : Cursor) (page : List ℕ) (x : Signal) (h : Settles x c page) where
-  pub owes-ended : x ≡ Ended → c .waiting ≡ 0
-  owes-ended q = rw q at h
-
-  pub owes-waits : x ≡ Waits → length (atHand c page) ≤ 13
-  owes-waits q = rw q at h
-
-  pub owes-more : x ≡ More → ⊥
-  owes-more q = rw q at h
-
-pub closes-ended : (x : Signal) (N n : ℕ) (s : Stand) (t : List ℕ) → Closes x N n s t → x ≡ Ended → s .count ≡ n → Inside N n t
-closes-ended x N n s t h q = rw q at h
-
 -- after a run the tables as they stood no longer matter
 test-same : (b : Bool) (nr : ℕ) (w : Walk) (x : Reading) (t u : List ℕ) → leaves x t ≡ leaves x u → leaves (test b nr w x) t ≡ leaves (test b nr w x) u
 unfolding test leaves tablesOf spoiled
@@ -150,21 +138,12 @@ settle-same (Run.waits w bs) t u = refl
 settle-same (Run.refused nr w) t u = refl
 
 -- a run, and where it leaves the session
-module _ (N n : ℕ) (s : Stand) (c : Cursor) (t page : List ℕ) (dims : 1 ≤ N) (r : Turned) (t' : List ℕ) (h : Runs N n s c t page r t') where
-  pub run-limits : Limits N n t'
+module _ (N n : ℕ) (s : Stand) (c : Cursor) (t page : List ℕ) (dims : 1 ≤ N) (r : Ran) (t' : List ℕ) (h : Runs N n s c t page r t') where
+  run-limits : Limits N n t'
   unfolding walkAt
   run-limits =
       let x = h .inv .shape in
       record { dims = (dims, x .ranks); darts = (omega (arith, x .some, x .within), x .small); room = x .table }
-
-  pub run-settles : Settles (r .signal) (r .cursor) page
-  run-settles = go (r .signal) refl
-    where
-      go : (x : Signal) → r .signal ≡ x → Settles x (r .cursor) page
-      go More e = absurd (h .stops e)
-      go Ended e = h .clean e
-      go Waits e = h .short e
-      go (Refused nr) e = tt
 
   -- at the walk's end every link of a numbered dart is known, and is a numbered dart
   run-inside : r .signal ≡ Ended → r .stand .count ≡ n → Inside N n t'
@@ -178,14 +157,13 @@ module _ (N n : ℕ) (s : Stand) (c : Cursor) (t page : List ℕ) (dims : 1 ≤ 
         omega (arith, v .links .far i d hi hd k);
   }
 
-  pub run-closes : Closes (r .signal) N n (r .stand) t'
-  run-closes = go (r .signal) refl
-    where
-      go : (x : Signal) → r .signal ≡ x → Closes x N n (r .stand) t'
-      go More e = tt
-      go Ended e = run-inside e
-      go Waits e = tt
-      go (Refused nr) e = tt
+  pub run-settles : Settles N n r t' page
+  run-settles = record {
+    limits = run-limits;
+    ends = λ e. record { limits = run-limits; fits = h .fits; clean = h .clean e; inside = run-inside e };
+    fits = h .fits;
+    short = h .short;
+  }
 
   pub run-left : (l : Left) → l ≡ leaves (settle (toldRun N n r t' page)) t' → l ≡ leaves (settle (runAll (walkAt N n s t) (atHand c page))) t
   run-left l e = e ∙ (ap (λ (x : Run). leaves (settle x) t') (h .tells) ∙ settle-same (runAll (walkAt N n s t) (atHand c page)) t' t)

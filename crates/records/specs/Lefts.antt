@@ -5,12 +5,15 @@ use mathlib.Core.List.{List, [], _∷_}
 use lib.ListN.{length}
 use Rattle.rules.specs.declared.Session.{Session}
 use Rattle.rules.specs.declared.State.{State}
+use Rattle.rules.specs.declared.ReadAnswer.{ReadAnswer}
+use Rattle.rules.specs.Lists.{sum}
+use Rattle.rules.specs.Map.{Limits}
 use Rattle.symbols.specs.declared.Cursor.{Cursor}
-use Rattle.symbols.specs.Cursors.{atHand}
+use Rattle.symbols.specs.Cursors.{atHand, CursorFits}
 use Rattle.tables.specs.Darts.{Inside}
 use Rattle.rules.specs.declared.Stand.{Stand}
-use Rattle.steps.specs.declared.Signal.{Signal}
-use Rattle.steps.specs.declared.Signal.the-variants.{More, Ended, Waits, Refused}
+use Rattle.runs.specs.declared.Ran.{Ran}
+use Rattle.runs.specs.declared.Signal.the-variants.{Ended, Waits}
 use Rattle.rules.specs.Session.{Left}
 use Rattle.records.specs.declared.Paged.{Paged}
 
@@ -20,22 +23,26 @@ leftBy r t = record { session = r .session; answer = r .answer; tables = t }
 
 -- a state with waiting bits as numbers, every other number 0
 abbrev pub idleBy : State → ℕ → ℕ → Session
-idleBy st waiting value = record { state = st; dim = 0; darts = 0; count = 0; positions = 0 ∷ 0 ∷ 0 ∷ 0 ∷ 0 ∷ 0 ∷ 0 ∷ []; waiting = waiting; value = value }
+idleBy st k v = record { state = st; dim = 0; darts = 0; count = 0; positions = 0 ∷ 0 ∷ 0 ∷ 0 ∷ 0 ∷ 0 ∷ 0 ∷ []; waiting = k; value = v }
 
 -- a state with a walk's numbers and waiting bits as numbers
 abbrev pub heldBy : State → ℕ → ℕ → Stand → ℕ → ℕ → Session
-heldBy st N n s waiting value = record { state = st; dim = N; darts = n; count = s .count; positions = s .positions; waiting = waiting; value = value }
+heldBy st N n s k v = record { state = st; dim = N; darts = n; count = s .count; positions = s .positions; waiting = k; value = v }
 
--- what a run's end owes: no bits wait at the walk's end, and at most thirteen are left where it waits; it does not leave off at More
-abbrev pub Settles : Signal → Cursor → List ℕ → Type 0
-Settles More c page = ⊥
-Settles Ended c page = c .waiting ≡ 0
-Settles Waits c page = length (atHand c page) ≤ 13
-Settles (Refused nr) c page = Unit
+-- the good answer of a walk's numbers
+abbrev pub goodBy : ℕ → ℕ → Stand → ReadAnswer
+goodBy N n s = record { number = 0; place = 0; steps = sum (s .positions); dim = N; darts = n }
 
--- at the walk's end every link is a dart if all darts are numbered
-abbrev pub Closes : Signal → ℕ → ℕ → Stand → List ℕ → Type 0
-Closes More N n s t = Unit
-Closes Ended N n s t = s .count ≡ n → Inside N n t
-Closes Waits N n s t = Unit
-Closes (Refused nr) N n s t = Unit
+-- a walk ended at the cursor c: no bits wait, and every link is a dart if all darts are numbered
+pub record Ends (N n : ℕ) (s : Stand) (c : Cursor) (t page : List ℕ) : Type 0 where
+  pub limits : Limits N n t
+  pub fits : CursorFits c page
+  pub clean : c .waiting ≡ 0
+  pub inside : s .count ≡ n → Inside N n t
+
+-- what a run owes the session that it leaves: where it waits at most thirteen bits are left
+pub record Settles (N n : ℕ) (r : Ran) (t page : List ℕ) : Type 0 where
+  pub limits : Limits N n t
+  pub ends : r .signal ≡ Ended → Ends N n (r .stand) (r .cursor) t page
+  pub fits : CursorFits (r .cursor) page
+  pub short : r .signal ≡ Waits → length (atHand (r .cursor) page) ≤ 13

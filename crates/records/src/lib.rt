@@ -1,26 +1,27 @@
-// The record and the answer that a reading leaves: refused, spoiled, held; the end of a walk, and where a run leaves the session.
+// The record and the answer that a reading leaves: refused, spoiled, held; the end of a walk, and where a run leaves
+// the session.
 use rules::ReadAnswer;
 use rules::Session;
 use rules::Stand;
 use rules::State;
-use steps::Signal;
-use steps::Turned;
+use runs::Ran;
+use runs::Signal;
 use symbols::Cursor;
 ghost use mathlib.Core.Path.{_≡_};
 ghost use mathlib.Core.Bool.{not};
-ghost use mathlib.Core.List.{[]};
 ghost use Prim.Native.Nat.{_≤_, _<_, _%_, _/_};
 ghost use lib.ListN.{length, take};
 ghost use lib.Dec.{eqb};
 ghost use Rattle.rules.specs.Lists.{sum};
 ghost use Rattle.rules.specs.Map.{Limits};
 ghost use Rattle.rules.specs.Stream.{value};
-ghost use Rattle.rules.specs.Reading.{plainAnswer, goodAnswer, runAll};
+ghost use Rattle.rules.specs.Reading as reading;
+ghost use Rattle.rules.specs.Reading.{plainAnswer, runAll};
 ghost use Rattle.rules.specs.Session.{leaves, walkAt};
 ghost use Rattle.symbols.specs.Cursors.{CursorFits, atHand};
-ghost use Rattle.tables.specs.Darts.{Inside};
-ghost use Rattle.steps.specs.Turns.{toldRun, Ready, Runs};
-ghost use Rattle.records.specs.Lefts.{leftBy};
+ghost use Rattle.runs.specs.Turns.{Ready};
+ghost use Rattle.runs.specs.Runs.{toldRun};
+ghost use Rattle.records.specs.Lefts.{leftBy, idleBy, heldBy, goodBy, Ends, Settles};
 
 // A session and the answer of a call.
 pub struct Paged {
@@ -51,7 +52,7 @@ pub fn unchanged(s: Session, number: u32, place: u32) -> Paged
 
 // A state with waiting bits, every other number 0.
 pub fn idle(state: State, waiting: u16, value: u16) -> Session
-    ensures { λ r. ⌜ r ≡ Rattle.records.specs.Lefts.idleBy state waiting value ⌝ }
+    ensures { λ r. ⌜ r ≡ idleBy state waiting value ⌝ }
 {
     Session {
         state,
@@ -79,7 +80,7 @@ pub fn steps_of(positions: [u16; 7]) -> u32
 
 // Refused: the state keeps number and place, and every other number of the record is 0.
 pub fn refused(number: u32, place: u32) -> Paged
-    ensures { λ r. ⌜ (r .session ≡ Rattle.records.specs.Lefts.idleBy (State.Refused number place) 0 0) × (r .answer ≡ plainAnswer number place) ⌝ }
+    ensures { λ r. ⌜ (r .session ≡ idleBy (State.Refused number place) 0 0) × (r .answer ≡ plainAnswer number place) ⌝ }
 {
     let session = idle(State::Refused(number, place), 0, 0);
     let answer = plain(number, place);
@@ -89,7 +90,7 @@ pub fn refused(number: u32, place: u32) -> Paged
 // Refused by 11 to 18: the map's entries become the mark.
 pub fn spoiled(number: u32, dim: usize, darts: usize, stand: Stand, tables: &mut [u16]) -> Paged
     requires { ⌜ Limits dim darts (now tables) ⌝ }
-    ensures { λ r. ⌜ leftBy r (now (tables .exit)) ≡ leaves (Rattle.rules.specs.Reading.spoiled number (walkAt dim darts stand (now (tables .entry)))) (now (tables .entry)) ⌝ }
+    ensures { λ r. let t = now (tables .entry) in ⌜ leftBy r (now (tables .exit)) ≡ leaves (reading.spoiled number (walkAt dim darts stand t)) t ⌝ }
 {
     let positions = stand.positions;
     let place = steps_of(positions);
@@ -100,7 +101,7 @@ pub fn spoiled(number: u32, dim: usize, darts: usize, stand: Stand, tables: &mut
 // Accepted so far: the record of the walk, and its answer.
 pub fn held(state: State, dim: usize, darts: usize, stand: Stand, waiting: u16, value: u16) -> Paged
     requires { ⌜ (dim ≤ 6) × (darts ≤ 4096) ⌝ }
-    ensures { λ r. ⌜ (r .session ≡ Rattle.records.specs.Lefts.heldBy state dim darts stand waiting value) × (r .answer ≡ record { number = 0; place = 0; steps = sum (stand .positions); dim = dim; darts = darts }) ⌝ }
+    ensures { λ r. ⌜ (r .session ≡ heldBy state dim darts stand waiting value) × (r .answer ≡ goodBy dim darts stand) ⌝ }
 {
     let positions = stand.positions;
     let count = stand.count;
@@ -127,7 +128,7 @@ pub fn held(state: State, dim: usize, darts: usize, stand: Stand, waiting: u16, 
 // Is a fill bit set in the rest of the byte where the cursor stands?
 pub fn fill_set(c: Cursor, page: &[u8]) -> bool
     requires { ⌜ CursorFits c (now page) × (c .waiting ≡ 0) ⌝ }
-    ensures { λ r. ⌜ not r ≡ eqb (value (take (length (atHand c (now (page .entry))) % 8) (atHand c (now (page .entry))))) 0 ⌝ }
+    ensures { λ r. let bits = atHand c (now (page .entry)) in ⌜ not r ≡ eqb (value (take (length bits % 8) bits)) 0 ⌝ }
 {
     let at = c.at;
     let bit = c.bit;
@@ -166,8 +167,8 @@ pub fn finish(
     page: &[u8],
     tables: &mut [u16],
 ) -> Paged
-    requires { ⌜ Limits dim darts (now tables) × CursorFits c (now page) × (c .waiting ≡ 0) × (stand .count ≡ darts → Inside dim darts (now tables)) ⌝ }
-    ensures { λ r. ⌜ leftBy r (now (tables .exit)) ≡ leaves (Rattle.rules.specs.Reading.finish (walkAt dim darts stand (now (tables .entry))) (atHand c (now (page .entry)))) (now (tables .entry)) ⌝ }
+    requires { ⌜ Ends dim darts stand c (now tables) (now page) ⌝ }
+    ensures { λ r. let t = now (tables .entry) in ⌜ leftBy r (now (tables .exit)) ≡ leaves (reading.finish (walkAt dim darts stand t) (atHand c (now (page .entry)))) t ⌝ }
 {
     let count = stand.count as usize;
     if count != darts {
@@ -186,21 +187,17 @@ pub fn finish(
 }
 
 // Where a run leaves the session.
-pub fn settle(dim: usize, darts: usize, t: Turned, page: &[u8], tables: &mut [u16]) -> Paged
-    requires { ⌜ Limits dim darts (now tables) × CursorFits (t .cursor) (now page) × Rattle.records.specs.Lefts.Settles (t .signal) (t .cursor) (now page) × Rattle.records.specs.Lefts.Closes (t .signal) dim darts (t .stand) (now tables) ⌝ }
-    ensures { λ r. ⌜ leftBy r (now (tables .exit)) ≡ leaves (Rattle.rules.specs.Reading.settle (toldRun dim darts t (now (tables .entry)) (now (page .entry)))) (now (tables .entry)) ⌝ }
+pub fn settle(dim: usize, darts: usize, r: Ran, page: &[u8], tables: &mut [u16]) -> Paged
+    requires { ⌜ Settles dim darts r (now tables) (now page) ⌝ }
+    ensures { λ p. let t = now (tables .entry) in ⌜ leftBy p (now (tables .exit)) ≡ leaves (reading.settle (toldRun dim darts r t (now (page .entry)))) t ⌝ }
 {
-    let stand = t.stand;
-    let cursor = t.cursor;
-    let signal = t.signal;
+    let stand = r.stand;
+    let cursor = r.cursor;
+    let signal = r.signal;
     match signal {
         Signal::Refused(number) => spoiled(number, dim, darts, stand, tables),
         Signal::Ended => finish(dim, darts, stand, cursor, page, tables),
         Signal::Waits => {
-            let w = cursor.rest(page);
-            held(State::Running, dim, darts, stand, w.bits, w.value)
-        }
-        Signal::More => {
             let w = cursor.rest(page);
             held(State::Running, dim, darts, stand, w.bits, w.value)
         }
@@ -217,8 +214,8 @@ pub fn go_on(
     tables: &mut [u16],
 ) -> Paged
     requires { ⌜ Ready dim darts stand c (now tables) (now page) ⌝ }
-    ensures { λ r. ⌜ leftBy r (now (tables .exit)) ≡ leaves (Rattle.rules.specs.Reading.settle (runAll (walkAt dim darts stand (now (tables .entry))) (atHand c (now (page .entry))))) (now (tables .entry)) ⌝ }
+    ensures { λ r. let t = now (tables .entry) in ⌜ leftBy r (now (tables .exit)) ≡ leaves (reading.settle (runAll (walkAt dim darts stand t) (atHand c (now (page .entry))))) t ⌝ }
 {
-    let t = steps::run(tables, dim, darts, stand, c, page);
-    settle(dim, darts, t, page, tables)
+    let r = runs::run(tables, dim, darts, stand, c, page);
+    settle(dim, darts, r, page, tables)
 }

@@ -1,3 +1,2 @@
 pub mod Partners
-pub mod Turns
-pub mod Runs
+pub mod Steps

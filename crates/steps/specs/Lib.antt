@@ -1,2 +1,2 @@
 pub mod Partners
-pub mod Turns
+pub mod Steps

@@ -1,21 +1,17 @@
-// One reading step and the run of steps that a page's bits allow, over lent tables and the positions.
+// One reading step over lent tables and positions: what is known of aj(b), and the step by a deduction or by a symbol.
+// Where a symbol comes from is no part of it.
 use rules::Session;
-use rules::Stand;
+use rules::Symbol;
 use rules::WalkNo;
-use symbols::Cursor;
-use symbols::Taken;
 ghost use mathlib.Core.Path.{_≡_};
-ghost use mathlib.Core.List.{List};
-ghost use Prim.Native.Nat.{ℕ, _+_, _-_, _≤_, _<_};
+ghost use Prim.Native.Nat.{_+_, _≤_, _<_};
 ghost use lib.ListN.{length, set};
 ghost use lib.Dec.{ltb};
 ghost use Rattle.rules.specs.Map.{Limits, link};
-ghost use Rattle.rules.specs.Walk;
-ghost use Rattle.symbols.specs.Cursors.{CursorFits, PastSymbol};
-ghost use Rattle.rules.specs.Inner.{Emptied, Lowest};
-ghost use Rattle.steps.specs.Partners.{looking, toldPartner};
-ghost use Rattle.rules.specs.Session.{walkAt};
-ghost use Rattle.steps.specs.Turns.{tablesJoined, mayName, standOf, turnedAt, Tied, Ready, Served, Taking, Turns, Runs};
+ghost use Rattle.rules.specs.Walk.{Partner};
+ghost use Rattle.rules.specs.Symbols.{toldSymbol};
+ghost use Rattle.steps.specs.Partners.{deducedFor, partnerFor, toldPartner};
+ghost use Rattle.steps.specs.Steps.{tablesJoined, mayName, deducedStep, symbolStep, Tied, Served, Steps};
 
 // The case of a step: what is to be done for aj(b).
 pub enum Case {
@@ -24,31 +20,15 @@ pub enum Case {
     Asked,
 }
 
-// What a step comes to.
-pub enum Signal {
-    More,
-    Ended,
-    Waits,
+// What a step comes to, beside the tables and positions, which are lent: it goes on, with a rank below which all queues
+// are empty and the count, or it is refused by a number.
+pub enum Stepped {
+    On(usize, u16),
     Refused(u32),
 }
 
-// Where a step or a run leaves the walk and the bits.
-pub struct Turned {
-    pub stand: Stand,
-    pub cursor: Cursor,
-    pub signal: Signal,
-}
-
-// What a step comes to, beside the positions, which are lent: a rank below which all queues are empty, and the count.
-pub struct Outcome {
-    pub rank: usize,
-    pub count: u16,
-    pub cursor: Cursor,
-    pub signal: Signal,
-}
-
 // What is known of ai(b), or the mark.
-pub fn follow(tables: &[u16], dim: usize, darts: usize, rank: usize, b: WalkNo) -> WalkNo
+pub fn known_link(tables: &[u16], dim: usize, darts: usize, rank: usize, b: WalkNo) -> WalkNo
     requires { ⌜ Limits dim darts (now tables) × (rank ≤ dim) ⌝ }
     ensures { λ r. ⌜ r .0 ≡ link dim darts (now (tables .entry)) rank (b .0) ⌝ }
 {
@@ -58,14 +38,14 @@ pub fn follow(tables: &[u16], dim: usize, darts: usize, rank: usize, b: WalkNo) 
 // The smallest i <= j-2 with aj(ai(b)) known deduces aj(b) = ai(aj(ai(b))).
 pub fn deduce(tables: &[u16], dim: usize, darts: usize, j: usize, b: WalkNo) -> Case
     requires { ⌜ Limits dim darts (now tables) × (j ≤ dim) ⌝ }
-    ensures { λ r. ⌜ toldPartner r ≡ Rattle.rules.specs.Walk.deduce (looking dim darts (now (tables .entry))) j (b .0) (j - 1) 0 ⌝ }
+    ensures { λ r. ⌜ toldPartner r ≡ deducedFor dim darts (now (tables .entry)) j (b .0) ⌝ }
 {
     let mut i = 0;
     while i + 1 < j {
-        let c = follow(tables, dim, darts, i, b);
-        let f = follow(tables, dim, darts, j, c);
+        let c = known_link(tables, dim, darts, i, b);
+        let f = known_link(tables, dim, darts, j, c);
         if f.0 != Session::NO_LINK {
-            return Case::Deduced(follow(tables, dim, darts, i, f));
+            return Case::Deduced(known_link(tables, dim, darts, i, f));
         }
         i += 1;
     }
@@ -75,9 +55,9 @@ pub fn deduce(tables: &[u16], dim: usize, darts: usize, j: usize, b: WalkNo) -> 
 // Known, deduced, or a symbol is needed.
 pub fn partner(tables: &[u16], dim: usize, darts: usize, j: usize, b: WalkNo) -> Case
     requires { ⌜ Limits dim darts (now tables) × (j ≤ dim) ⌝ }
-    ensures { λ r. ⌜ toldPartner r ≡ Rattle.rules.specs.Walk.partner (looking dim darts (now (tables .entry))) j (b .0) ⌝ }
+    ensures { λ r. ⌜ toldPartner r ≡ partnerFor dim darts (now (tables .entry)) j (b .0) ⌝ }
 {
-    if follow(tables, dim, darts, j, b).0 != Session::NO_LINK {
+    if known_link(tables, dim, darts, j, b).0 != Session::NO_LINK {
         return Case::Known;
     }
     deduce(tables, dim, darts, j, b)
@@ -113,7 +93,7 @@ pub fn nameable(
     if e.0 == b.0 {
         return false;
     }
-    follow(tables, dim, darts, j, e).0 == Session::NO_LINK
+    known_link(tables, dim, darts, j, e).0 == Session::NO_LINK
 }
 
 // An N must find a dart that has no number yet.
@@ -121,18 +101,6 @@ pub fn dart_left(darts: usize, count: u16) -> bool
     ensures { λ r. ⌜ r ≡ ltb count darts ⌝ }
 {
     (count as usize) < darts
-}
-
-// Where a step leaves off.
-pub fn comes_to(rank: usize, count: u16, cursor: Cursor, signal: Signal) -> Outcome
-    ensures { λ r. ⌜ r ≡ record { rank = rank; count = count; cursor = cursor; signal = signal } ⌝ }
-{
-    Outcome {
-        rank,
-        count,
-        cursor,
-        signal,
-    }
 }
 
 // b has left Lj.
@@ -160,141 +128,62 @@ pub fn tied(
     passed(positions, j, b);
 }
 
-// A step by a symbol that was taken at the head b of Lj. A new dart enters L0, so the next search begins there.
+// The step at the head b of Lj by its deduced partner e.
+pub fn by_deduction(
+    tables: &mut [u16],
+    positions: &mut [u16],
+    dim: usize,
+    darts: usize,
+    count: u16,
+    j: usize,
+    b: WalkNo,
+    e: WalkNo,
+) -> Stepped
+    requires { ⌜ Served dim darts count (now positions) (now tables) j (b .0) (Partner.deduced (e .0)) ⌝ }
+    ensures { λ r. ⌜ Steps dim darts count (now (positions .entry)) (now (tables .entry)) (deducedStep j (b .0) (e .0)) r (now (positions .exit)) (now (tables .exit)) ⌝ }
+{
+    if known_link(tables, dim, darts, j, e).0 == Session::NO_LINK {
+        tied(tables, positions, dim, darts, j, b, e);
+        Stepped::On(j, count)
+    } else {
+        Stepped::Refused(14)
+    }
+}
+
+// The step at the head b of Lj by the symbol s. A new dart enters L0, so the next search begins there.
 pub fn by_symbol(
     tables: &mut [u16],
     positions: &mut [u16],
     dim: usize,
     darts: usize,
     count: u16,
-    c: Cursor,
     j: usize,
     b: WalkNo,
-    taken: Taken,
-) -> Outcome
-    requires { ⌜ Served dim darts count (now positions) (now tables) j (b .0) × (Rattle.rules.specs.Walk.partner (walkAt dim darts (standOf count (now positions)) (now tables)) j (b .0) ≡ Rattle.rules.specs.Walk.Partner.asked) ⌝ }
-    ensures { λ r. ⌜ ((page : List ℕ) → CursorFits c page → PastSymbol taken c page → Taking dim darts (standOf count (now (positions .entry))) c (now (tables .entry)) page j (b .0) taken (turnedAt r (now (positions .exit))) (now (tables .exit))) × Emptied (r .count) (now (positions .exit)) (r .rank) ⌝ }
+    s: Symbol,
+) -> Stepped
+    requires { ⌜ Served dim darts count (now positions) (now tables) j (b .0) Partner.asked ⌝ }
+    ensures { λ r. ⌜ Steps dim darts count (now (positions .entry)) (now (tables .entry)) (symbolStep j (b .0) (toldSymbol s)) r (now (positions .exit)) (now (tables .exit)) ⌝ }
 {
-    match taken {
-        Taken::Short => comes_to(j, count, c, Signal::Waits),
-        Taken::Border(d) => {
+    match s {
+        Symbol::Border => {
             tied(tables, positions, dim, darts, j, b, b);
-            comes_to(j, count, d, Signal::More)
+            Stepped::On(j, count)
         }
-        Taken::Index(e, d) => {
+        Symbol::Index(e) => {
             if nameable(tables, dim, darts, count, j, b, e) {
                 tied(tables, positions, dim, darts, j, b, e);
-                comes_to(j, count, d, Signal::More)
+                Stepped::On(j, count)
             } else {
-                comes_to(j, count, c, Signal::Refused(12))
+                Stepped::Refused(12)
             }
         }
-        Taken::New(d) => {
+        Symbol::New => {
             if dart_left(darts, count) {
                 tied(tables, positions, dim, darts, j, b, WalkNo(count));
-                comes_to(0, count + 1, d, Signal::More)
+                Stepped::On(0, count + 1)
             } else {
-                comes_to(j, count, c, Signal::Refused(13))
+                Stepped::Refused(13)
             }
         }
-    }
-}
-
-// One step with the bits at hand, at the head of Lj.
-pub fn turn(
-    tables: &mut [u16],
-    positions: &mut [u16],
-    dim: usize,
-    darts: usize,
-    count: u16,
-    j: usize,
-    c: Cursor,
-    page: &[u8],
-) -> Outcome
-    requires { ⌜ Ready dim darts (standOf count (now positions)) c (now tables) (now page) × Lowest dim count (now positions) j ⌝ }
-    ensures { λ r. ⌜ Turns dim darts (standOf count (now (positions .entry))) c (now (tables .entry)) (now (page .entry)) (turnedAt r (now (positions .exit))) (now (tables .exit)) × Emptied (r .count) (now (positions .exit)) (r .rank) ⌝ }
-{
-    let b = WalkNo(positions[j]);
-    match partner(tables, dim, darts, j, b) {
-        Case::Known => {
-            passed(positions, j, b);
-            comes_to(j, count, c, Signal::More)
-        }
-        Case::Deduced(e) => {
-            if follow(tables, dim, darts, j, e).0 == Session::NO_LINK {
-                tied(tables, positions, dim, darts, j, b, e);
-                comes_to(j, count, c, Signal::More)
-            } else {
-                comes_to(j, count, c, Signal::Refused(14))
-            }
-        }
-        Case::Asked => {
-            let taken = c.take_symbol(page);
-            by_symbol(tables, positions, dim, darts, count, c, j, b, taken)
-        }
-    }
-}
-
-// Every step that needs no bit beyond those at hand; each writes one place of the positions. With the queues below Lj
-// empty, Lj holds the walk numbers from its position up to the count.
-pub fn walk_on(
-    tables: &mut [u16],
-    positions: &mut [u16],
-    dim: usize,
-    darts: usize,
-    count: u16,
-    c: Cursor,
-    page: &[u8],
-) -> Outcome
-    requires { ⌜ Ready dim darts (standOf count (now positions)) c (now tables) (now page) ⌝ }
-    ensures { λ r. ⌜ Runs dim darts (standOf count (now (positions .entry))) c (now (tables .entry)) (now (page .entry)) (turnedAt r (now (positions .exit))) (now (tables .exit)) ⌝ }
-{
-    let mut rank = 0;
-    let mut numbered = count;
-    let mut cursor = c;
-    while rank <= dim {
-        if numbered <= positions[rank] {
-            rank += 1;
-        } else {
-            let t = turn(tables, positions, dim, darts, numbered, rank, cursor, page);
-            let signal = t.signal;
-            match signal {
-                Signal::More => {
-                    rank = t.rank;
-                    numbered = t.count;
-                    cursor = t.cursor;
-                }
-                Signal::Ended => {
-                    return t;
-                }
-                Signal::Waits => {
-                    return t;
-                }
-                Signal::Refused(_) => {
-                    return t;
-                }
-            }
-        }
-    }
-    comes_to(rank, numbered, cursor, Signal::Ended)
-}
-
-// The same from a stand: its positions are lent, so that no step copies them.
-pub fn run(tables: &mut [u16], dim: usize, darts: usize, s: Stand, c: Cursor, page: &[u8]) -> Turned
-    requires { ⌜ Ready dim darts s c (now tables) (now page) ⌝ }
-    ensures { λ r. ⌜ Runs dim darts s c (now (tables .entry)) (now (page .entry)) r (now (tables .exit)) ⌝ }
-{
-    let mut positions = s.positions;
-    let t = walk_on(tables, &mut positions, dim, darts, s.count, c, page);
-    let stand = Stand {
-        count: t.count,
-        positions,
-    };
-    let cursor = t.cursor;
-    let signal = t.signal;
-    Turned {
-        stand,
-        cursor,
-        signal,
     }
 }

@@ -1,4 +1,5 @@
--- Laws of bits: of a number, of a byte, of a page, one by one and fourteen at once; a number from its bits; bits that begin a symbol. Rests on the laws of codes.
+-- Laws of bits: of a number, of a byte, of a page, one by one and fourteen at once; a number from its bits; bits that begin a symbol.
+-- Rests on the laws of codes.
 use Prim.Native.Nat.{ℕ, zero, suc, _+_, _*_, _-_, _/_, _%_, _≤_, _<_, _^_}
 use mathlib.Core.Path.{_≡_, refl, ap, sym, _∙_}
 use mathlib.Core.Bool.{Bool, true, false, cond}
@@ -77,7 +78,12 @@ module _ (page : List ℕ) (at : ℕ) (within : at < length page) where
       let x = getD page at 0 in
       let l = length-bits 8 x in
       let n : b + (1 + (7 - b)) ≡ 8 = omega arith in
-      rw (page-byte, drop-append-le b (bitsOf 8 x) (unpack (drop (suc at) page)) (omega arith), drop-append-le (b + 1) (bitsOf 8 x) (unpack (drop (suc at) page)) (omega arith), rw n at (bit-at b (7 - b) x (rw n hx)))
+      rw (
+        page-byte,
+        drop-append-le b (bitsOf 8 x) (unpack (drop (suc at) page)) (omega arith),
+        drop-append-le (b + 1) (bitsOf 8 x) (unpack (drop (suc at) page)) (omega arith),
+        rw n at (bit-at b (7 - b) x (rw n hx)),
+      )
 
 -- whole bytes dropped
 unpack-drop : (k : ℕ) (xs : List ℕ) → drop (8 * k) (unpack xs) ≡ unpack (drop k xs)
@@ -98,8 +104,16 @@ page-moved page at to =
 pub bits-before : (j k a b : ℕ) (rest : List Bool) → a < 2 ^ j → b < 2 ^ k → bitsOf j a ++ (bitsOf k b ++ rest) ≡ bitsOf (j + k) (a * 2 ^ k + b) ++ rest
 bits-before j k a b rest ha hb = sym (append-assoc (bitsOf j a) (bitsOf k b) rest) ∙ rw (bits-join j k a b ha hb)
 
+-- the number of three bytes of a page, and of fourteen of their bits from bit b on
+abbrev pub threeAt : List ℕ → ℕ → ℕ
+threeAt page at = (getD page at 0 * 256 + getD page (at + 1) 0) * 256 + getD page (at + 2) 0
+
+abbrev pub headAt : List ℕ → ℕ → ℕ → ℕ
+headAt page at b = threeAt page at / 2 ^ (10 - b) % 16384
+
 -- a byte of a page and the two after it as one number, and of its bits fourteen from bit b on
-module _ (page : List ℕ) (at : ℕ) (within : at + 2 < length page) (hx : getD page at 0 < 256) (hy : getD page (at + 1) 0 < 256) (hz : getD page (at + 2) 0 < 256) where
+module _ (page : List ℕ) (at : ℕ) (within : at + 2 < length page) (hx : getD page at 0 < 256) (hy : getD page (at + 1) 0 < 256)
+    (hz : getD page (at + 2) 0 < 256) where
   page-three : unpack (drop at page) ≡ bitsOf 24 ((getD page at 0 * 256 + getD page (at + 1) 0) * 256 + getD page (at + 2) 0) ++ unpack (drop (at + 3) page)
   page-three =
       let x = getD page at 0 in
@@ -110,17 +124,26 @@ module _ (page : List ℕ) (at : ℕ) (within : at + 2 < length page) (hx : getD
       let f : suc (at + 2) ≡ at + 3 = omega arith in
       let q : unpack (drop (at + 1) page) ≡ bitsOf 8 y ++ unpack (drop (at + 2) page) = rw e at (page-byte page (at + 1) (omega arith)) in
       let r : unpack (drop (at + 2) page) ≡ bitsOf 8 z ++ rest = rw f at (page-byte page (at + 2) (omega arith)) in
-      rw (page-byte page at (omega arith), ← add-one at, q, r, bits-before 8 8 x y (bitsOf 8 z ++ rest) hx hy, bits-before 16 8 (x * 256 + y) z rest (omega arith) hz)
+      rw (
+        page-byte page at (omega arith),
+        ← add-one at,
+        q,
+        r,
+        bits-before 8 8 x y (bitsOf 8 z ++ rest) hx hy,
+        bits-before 16 8 (x * 256 + y) z rest (omega arith) hz,
+      )
 
-  pub page-head : (b : ℕ) → b < 8
-      → (rest : List Bool) × (drop b (unpack (drop at page)) ≡ bitsOf 14 (((getD page at 0 * 256 + getD page (at + 1) 0) * 256 + getD page (at + 2) 0) / 2 ^ (10 - b) % 16384) ++ rest)
+  pub page-head : (b : ℕ) → b < 8 → (rest : List Bool) × (drop b (unpack (drop at page)) ≡ bitsOf 14 (headAt page at b) ++ rest)
   page-head b h =
-      let three = (getD page at 0 * 256 + getD page (at + 1) 0) * 256 + getD page (at + 2) 0 in
+      let three = threeAt page at in
       let low = bitsOf (10 - b) (three % 2 ^ (10 - b)) in
       let after = unpack (drop (at + 3) page) in
       let n : b + (14 + (10 - b)) ≡ 24 = omega arith in
-      let f : drop b (bitsOf 24 three) ≡ bitsOf 14 (three / 2 ^ (10 - b) % 16384) ++ low = rw n at (bits-field b 14 (10 - b) three (rw n (omega arith))) in
-      (low ++ after, rw (page-three, drop-append-le b (bitsOf 24 three) after (omega (arith, length-bits 24 three)), f) (append-assoc (bitsOf 14 (three / 2 ^ (10 - b) % 16384)) low after))
+      let f : drop b (bitsOf 24 three) ≡ bitsOf 14 (headAt page at b) ++ low = rw n at (bits-field b 14 (10 - b) three (rw n (omega arith))) in
+      let e : drop b (unpack (drop at page)) ≡ bitsOf 14 (headAt page at b) ++ (low ++ after) =
+      rw (page-three, drop-append-le b (bitsOf 24 three) after (omega (arith, length-bits 24 three)), f)
+      (append-assoc (bitsOf 14 (headAt page at b)) low after) in
+      (low ++ after, e)
 
 -- i bits of bs were taken, v is the number that they write, and l are left
 pub record Taking (bs l : List Bool) (i v : ℕ) : Type 0 where
@@ -132,7 +155,8 @@ pub taking-start : (bs : List Bool) → Taking bs bs 0 0
 unfolding value
 taking-start bs = record { upTo = omega arith; rest = refl; wrote = refl }
 
-pub taking-more : {bs l : List Bool} {i v : ℕ} → Taking bs l i v → (b : Bool) (m : List Bool) → l ≡ b ∷ m → (u : ℕ) → u ≡ 2 * v + cond b 1 0 → Taking bs m (i + 1) u
+pub taking-more : {bs l : List Bool} {i v : ℕ} → Taking bs l i v → (b : Bool) (m : List Bool) → l ≡ b ∷ m → (u : ℕ) → u ≡ 2 * v + cond b 1 0
+    → Taking bs m (i + 1) u
 taking-more {bs} {l} {i} {v} r b m e u d =
     let q : drop i bs ≡ b ∷ m = r .rest ∙ e in
     let t : take (i + 1) bs ≡ take i bs ++ (b ∷ []) = take-add i 1 bs ∙ rw q in

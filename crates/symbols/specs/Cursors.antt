@@ -9,6 +9,7 @@ use Rattle.rules.specs.Walk.{Symbol}
 use Rattle.rules.specs.Stream.{bitsOf, unpack}
 use Rattle.rules.specs.Stream as stream
 use Rattle.rules.specs.Session.{begins}
+use Rattle.rules.specs.Symbols.{toldSymbol}
 use Rattle.symbols.specs.declared.Cursor.{Cursor}
 use Rattle.symbols.specs.declared.Bit.{Bit}
 use Rattle.symbols.specs.declared.Bit.the-variants as bit
@@ -74,9 +75,7 @@ pub record NumberTaken (r : Number) (c : Cursor) (page : List ℕ) : Type 0 wher
 -- a symbol told, and the bits at hand after it
 unfoldable pub told : Taken → List ℕ → stream.Taken
 told taken.Short page = stream.Taken.short
-told (taken.New d) page = stream.Taken.symbol Symbol.new (atHand d page)
-told (taken.Border d) page = stream.Taken.symbol Symbol.border (atHand d page)
-told (taken.Index w d) page = stream.Taken.symbol (Symbol.index (w .0)) (atHand d page)
+told (taken.Symbol s d) page = stream.Taken.symbol (toldSymbol s) (atHand d page)
 
 -- the cursor d past a symbol from c fits, and if the bits that waited begin a symbol, none waits any more
 pub record PastCode (c d : Cursor) (page : List ℕ) : Type 0 where
@@ -86,9 +85,7 @@ pub record PastCode (c d : Cursor) (page : List ℕ) : Type 0 where
 -- the cursor past a symbol, if there is one
 unfoldable pub PastSymbol : Taken → Cursor → List ℕ → Type 0
 PastSymbol taken.Short c page = Unit
-PastSymbol (taken.New d) c page = PastCode c d page
-PastSymbol (taken.Border d) c page = PastCode c d page
-PastSymbol (taken.Index w d) c page = PastCode c d page
+PastSymbol (taken.Symbol s d) c page = PastCode c d page
 
 -- a symbol was taken from the bits at hand
 pub record SymbolTaken (r : Taken) (c : Cursor) (page : List ℕ) : Type 0 where

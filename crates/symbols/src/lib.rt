@@ -1,4 +1,6 @@
-// Bits and symbols: a cursor over the bits that wait and a page's bits, and taking one symbol: from three bytes at once, or bit by bit where bits wait or the page ends.
+// Bits and symbols: a cursor over the bits that wait and a page's bits, and taking one symbol: from three bytes at
+// once, or bit by bit where bits wait or the page ends.
+use rules::Symbol;
 use rules::WalkNo;
 ghost use mathlib.Core.Path.{_≡_};
 ghost use mathlib.Core.List.{List};
@@ -31,9 +33,7 @@ pub enum Number {
 // The next symbol, with the cursor past it, or that bits ran out.
 pub enum Taken {
     Short,
-    New(Cursor),
-    Border(Cursor),
-    Index(WalkNo, Cursor),
+    Symbol(Symbol, Cursor),
 }
 
 // Bits that wait: how many, and the number they write.
@@ -143,7 +143,7 @@ impl Cursor {
                 return Taken::Short;
             }
             Bit::Zero(d) => {
-                return Taken::New(d);
+                return Taken::Symbol(Symbol::New, d);
             }
             Bit::One(d) => d,
         };
@@ -153,13 +153,13 @@ impl Cursor {
                 return Taken::Short;
             }
             Bit::Zero(e) => {
-                return Taken::Border(e);
+                return Taken::Symbol(Symbol::Border, e);
             }
             Bit::One(e) => e,
         };
         match d.take_number(page) {
             Number::Short => Taken::Short,
-            Number::Is(w, e) => Taken::Index(w, e),
+            Number::Is(w, e) => Taken::Symbol(Symbol::Index(w), e),
         }
     }
 
@@ -172,12 +172,13 @@ impl Cursor {
         let three = (page[at] as u32 * 256 + page[at + 1] as u32) * 256 + page[at + 2] as u32;
         let head = (three >> (10 - self.bit)) % 16384;
         if head < 8192 {
-            return Taken::New(self.moved(1));
+            return Taken::Symbol(Symbol::New, self.moved(1));
         }
         if head < 12288 {
-            return Taken::Border(self.moved(2));
+            return Taken::Symbol(Symbol::Border, self.moved(2));
         }
-        Taken::Index(WalkNo((head - 12288) as u16), self.moved(14))
+        let w = WalkNo((head - 12288) as u16);
+        Taken::Symbol(Symbol::Index(w), self.moved(14))
     }
 
     // The symbol that the bits begin with.

@@ -23,7 +23,9 @@ positions-are-requires : tie.Need-positions-are-requires
 positions-are-requires c κs = search needs
 
 returns-4 : tie.Need-returns-4
-returns-4 c = done-positions _ (c .before .before .before .before .before .if1 .left) (c .before .before .before .if2 .left) (c .before .if3 .left) _ (c .positions-are .ensures)
+returns-4 c =
+    done-positions _ (c .before .before .before .before .before .if1 .left) (c .before .before .before .if2 .left) (c .before .if3 .left) _
+    (c .positions-are .ensures)
 
 pub all-done-spec : {M : Type 1} → statement M
 all-done-spec = tie.close (tie.spec cast-dim returns returns-2 returns-3 add-positions-are positions-are-requires returns-4)

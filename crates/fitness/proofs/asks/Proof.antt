@@ -9,6 +9,10 @@ use Rattle.fitness.proofs.asks.Tie as tie
 seven : (c : tie.Start) → length (c .args .stand .positions) ≡ 7
 seven c = sym (length-map (c .args .stand .positions) (λ v. v)) ∙ c .good .1 .1 .0 .1 .1 .1 .0 .1 .0 .1
 
+-- where the lowest queue was found, from its head's case
+abbrev found : tie.After-partner → tie.After-lowest
+found c = c .before .before
+
 lowest-requires : tie.Need-lowest-requires
 lowest-requires c κs = search needs
 
@@ -37,18 +41,37 @@ enum-told-3 c = search needs
 
 returns-2 : tie.Need-returns-2
 returns-2 c =
-    let s = c .before .before .before .before .before .before .before in
-    asks-known _ _ _ _ _ (seven s) (s .pre .dims .1) _ (c .before .before .before .before .lowest .ensures) (c .before .before .before .if1 .left) _ (c .before .before .partner .ensures) (c .enum-told .given .1)
+    let k = c .before .before in
+    let l = found k in
+    let s = l .before .before .before in
+    asks-known _ _ _ _ _ (seven s) (s .pre .dims .1) _ (l .lowest .ensures) (k .before .if1 .left) _ (k .partner .ensures) (c .enum-told .given .1)
 
 returns-3 : tie.Need-returns-3
 returns-3 c =
-    let s = c .before .before .before .before .before .before .before in
-    asks-deduced _ _ _ _ _ (seven s) (s .pre .dims .1) _ (c .before .before .before .before .lowest .ensures) (c .before .before .before .if1 .left) _ (c .before .before .partner .ensures) _ (c .enum-told2 .given .1)
+    let k = c .before .before in
+    let l = found k in
+    let s = l .before .before .before in
+    asks-deduced _ _ _ _ _ (seven s) (s .pre .dims .1) _ (l .lowest .ensures) (k .before .if1 .left) _ (k .partner .ensures) _ (c .enum-told2 .given .1)
 
 returns-4 : tie.Need-returns-4
 returns-4 c =
-    let s = c .before .before .before .before .before .before .before in
-    asks-asked _ _ _ _ _ (seven s) (s .pre .dims .1) _ (c .before .before .before .before .lowest .ensures) (c .before .before .before .if1 .left) _ (c .before .before .partner .ensures) (c .enum-told3 .given .1)
+    let k = c .before .before in
+    let l = found k in
+    let s = l .before .before .before in
+    asks-asked _ _ _ _ _ (seven s) (s .pre .dims .1) _ (l .lowest .ensures) (k .before .if1 .left) _ (k .partner .ensures) (c .enum-told3 .given .1)
 
 pub asks-spec : {M : Type 1} → statement M
-asks-spec = tie.close (tie.spec lowest-requires returns mul-t11 array-read-t14 partner-requires enum-told enum-told-2 enum-told-3 returns-2 returns-3 returns-4)
+asks-spec =
+    tie.close
+    (tie.spec
+    lowest-requires
+    returns
+    mul-t11
+    array-read-t14
+    partner-requires
+    enum-told
+    enum-told-2
+    enum-told-3
+    returns-2
+    returns-3
+    returns-4)

@@ -28,7 +28,8 @@ rank-fits-requires c κs =
     (p .0, omega arith, p .1, p .2 (c .before .loop .rank) (omega arith))
 
 returns : tie.Need-returns Inv-loop μ-loop
-returns c = fails-at _ _ (c .before .before .before .loop .rank) (omega arith) (sym (c .before .rank-fits .ensures) ∙ not-true _ (c .if1 .taken)) ∙ by-ranks _ _ _ _ _
+returns c =
+    fails-at _ _ (c .before .before .before .loop .rank) (omega arith) (sym (c .before .rank-fits .ensures) ∙ not-true _ (c .if1 .taken)) ∙ by-ranks _ _ _ _ _
 
 add-rank : tie.Need-add-rank Inv-loop μ-loop
 add-rank c = omega arith
@@ -43,4 +44,17 @@ returns-2 : tie.Need-returns-2 Inv-loop μ-loop
 returns-2 c = passed-end (c .before .loop .inv) (omega arith) ∙ by-ranks _ _ _ _ _
 
 pub entries-fit-spec : {M : Type 1} → statement M
-entries-fit-spec = tie.close (tie.spec Inv-loop μ-loop loop-holds mul-rank-fits array-read-rank-fits rank-fits-requires returns add-rank loop-less loop-again returns-2)
+entries-fit-spec =
+    tie.close
+    (tie.spec
+    Inv-loop
+    μ-loop
+    loop-holds
+    mul-rank-fits
+    array-read-rank-fits
+    rank-fits-requires
+    returns
+    add-rank
+    loop-less
+    loop-again
+    returns-2)

@@ -47,4 +47,20 @@ returns-5 : tie.Need-returns-5
 returns-5 c = fit-refused _ _ _ _ (c .before .before .state .given .1) _ (c .refusal-fits .ensures)
 
 pub fit-spec : {M : Type 1} → statement M
-fit-spec = tie.close (tie.spec enum-told header-fits-requires enum-told-2 running-fits-requires enum-told-3 complete-fits-requires enum-told-4 enum-known-state refusal-fits-requires returns returns-2 returns-3 returns-4 returns-5)
+fit-spec =
+    tie.close
+    (tie.spec
+    enum-told
+    header-fits-requires
+    enum-told-2
+    running-fits-requires
+    enum-told-3
+    complete-fits-requires
+    enum-told-4
+    enum-known-state
+    refusal-fits-requires
+    returns
+    returns-2
+    returns-3
+    returns-4
+    returns-5)

@@ -23,7 +23,9 @@ only-bits-requires-2 : tie.Need-only-bits-requires-2
 only-bits-requires-2 c κs = search needs
 
 returns-5 : tie.Need-returns-5
-returns-5 c = header-byte _ (c .before .before .before .before .before .if1 .left) (c .before .before .before .if3 .left) (c .before .if4 .left) _ (c .only-bits2 .ensures)
+returns-5 c =
+    header-byte _ (c .before .before .before .before .before .if1 .left) (c .before .before .before .if3 .left) (c .before .if4 .left) _
+    (c .only-bits2 .ensures)
 
 pub header-fits-spec : {M : Type 1} → statement M
 header-fits-spec = tie.close (tie.spec returns only-bits-requires returns-2 returns-3 returns-4 only-bits-requires-2 returns-5)

@@ -8,16 +8,19 @@ returns : tie.Need-returns
 returns c = only-dim _ (c .if1 .taken)
 
 returns-2 : tie.Need-returns-2
-returns-2 c = only-darts _ (c .before .before .if1 .left) (c .if2 .taken)
+returns-2 c = only-darts _ (c .if2 .taken)
 
 returns-3 : tie.Need-returns-3
-returns-3 c = only-count _ (c .before .before .before .before .if1 .left) (c .before .before .if2 .left) (c .if3 .taken)
+returns-3 c = only-count _ (c .if3 .taken)
 
 positions-are-requires : tie.Need-positions-are-requires
 positions-are-requires c κs = search needs
 
 returns-4 : tie.Need-returns-4
-returns-4 c = only-positions _ (c .before .before .before .before .before .before .if1 .left) (c .before .before .before .before .if2 .left) (c .before .before .if3 .left) _ (c .positions-are .ensures)
+returns-4 c =
+    let k = c .before .before in
+    let n = k .before .before in
+    only-positions _ (n .before .before .if1 .left) (n .if2 .left) (k .if3 .left) _ (c .positions-are .ensures)
 
 pub only-bits-spec : {M : Type 1} → statement M
 only-bits-spec = tie.close (tie.spec returns returns-2 returns-3 positions-are-requires returns-4)

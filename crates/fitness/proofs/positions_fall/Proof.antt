@@ -52,4 +52,18 @@ returns-2 : tie.Need-returns-2 Inv-loop μ-loop
 returns-2 c = passed-end (c .before .loop .inv .0) (omega arith)
 
 pub positions-fall-spec : {M : Type 1} → statement M
-positions-fall-spec = tie.close (tie.spec Inv-loop μ-loop loop-holds mul-if1 array-read-if1 returns mul-above array-read-above add-i loop-less loop-again returns-2)
+positions-fall-spec =
+    tie.close
+    (tie.spec
+    Inv-loop
+    μ-loop
+    loop-holds
+    mul-if1
+    array-read-if1
+    returns
+    mul-above
+    array-read-above
+    add-i
+    loop-less
+    loop-again
+    returns-2)

@@ -3,7 +3,7 @@ use Prim.Native.Nat.{_+_, _≤_}
 use native.Mathlib.Omega.{arith}
 use lib.ListN.{length}
 use borrow.Author.Needs.{needs}
-use Rattle.fitness.proofs.Laws.{row-within, rank-known, rank-open, rank-blank}
+use Rattle.fitness.proofs.Laws.{rank-room, rank-known, rank-open, rank-blank}
 use Rattle.fitness.proofs.rank_fits.Statement.{statement}
 use Rattle.fitness.proofs.rank_fits.Tie as tie
 
@@ -12,7 +12,7 @@ place-requires c κs = search needs
 
 -- the rank's entries end within the tables
 within : (c : tie.After-place) → c .place .result + c .before .before .args .darts ≤ length (c .before .before .args .tables .now)
-within c = let p = c .before .before .pre in row-within _ _ _ _ (p .0) (p .1) _ (c .place .ensures)
+within c = let p = c .before .before .pre in rank-room _ _ _ _ (p .0) (p .1) _ (c .place .ensures)
 
 add-passed : tie.Need-add-passed
 add-passed c = omega (arith, within c)
@@ -50,7 +50,20 @@ returns-3 c =
     let k = o .before .before in
     let g = k .before .before in
     let p = g .before .before .pre in
-    rank-blank _ _ _ _ (p .0) (p .1) _ (g .place .ensures) _ _ (p .2) (p .3) _ (k .before .known-fit .ensures) (k .if1 .left) _ (o .before .open-fit .ensures) (o .if2 .left) _ (c .blank-fit .ensures)
+    rank-blank _ _ _ _ (p .0) (p .1) _ (g .place .ensures) _ _ (p .2) (p .3) _ (k .before .known-fit .ensures) (k .if1 .left) _ (o .before .open-fit .ensures)
+    (o .if2 .left) _ (c .blank-fit .ensures)
 
 pub rank-fits-spec : {M : Type 1} → statement M
-rank-fits-spec = tie.close (tie.spec place-requires add-passed add-numbered known-fit-requires returns open-fit-requires returns-2 add-blank-fit blank-fit-requires returns-3)
+rank-fits-spec =
+    tie.close
+    (tie.spec
+    place-requires
+    add-passed
+    add-numbered
+    known-fit-requires
+    returns
+    open-fit-requires
+    returns-2
+    add-blank-fit
+    blank-fit-requires
+    returns-3)

@@ -4,6 +4,10 @@ use Rattle.fitness.proofs.Laws.{running-unfit, running-still, running-b
 use Rattle.fitness.proofs.running_fits.Statement.{statement}
 use Rattle.fitness.proofs.running_fits.Tie as tie
 
+-- the walk fits, from where its stand is asked
+abbrev fits : tie.After-stand-of → tie.Else1
+fits c = c .before .before .before
+
 walk-fits-requires : tie.Need-walk-fits-requires
 walk-fits-requires c κs = search needs
 
@@ -20,16 +24,24 @@ stand-of-requires : tie.Need-stand-of-requires
 stand-of-requires c κs = search needs
 
 asks-requires : tie.Need-asks-requires
-asks-requires c κs = limits-of _ _ _ (c .before .before .before .before .walk-fits .ensures) (c .before .before .before .if1 .left)
+asks-requires c κs = let k = fits c in limits-of _ _ _ (k .before .walk-fits .ensures) (k .if1 .left)
 
 returns-2 : tie.Need-returns-2
-returns-2 c = running-still _ _ _ (c .before .before .before .before .before .before .walk-fits .ensures) (c .before .before .before .before .before .if1 .left) _ (c .before .before .stand-of .ensures) _ (c .before .asks .ensures) (c .if2 .taken)
+returns-2 c =
+    let m = c .before .before in
+    let k = fits m in
+    running-still _ _ _ (k .before .walk-fits .ensures) (k .if1 .left) _ (m .stand-of .ensures) _ (c .before .asks .ensures) (c .if2 .taken)
 
 begins-requires : tie.Need-begins-requires
 begins-requires c κs = search needs
 
 returns-3 : tie.Need-returns-3
-returns-3 c = running-begun _ _ _ (c .before .before .before .before .before .before .before .walk-fits .ensures) (c .before .before .before .before .before .before .if1 .left) _ (c .before .before .before .stand-of .ensures) _ (c .before .before .asks .ensures) (c .before .if2 .left) _ (c .begins .ensures)
+returns-3 c =
+    let a = c .before .before in
+    let m = a .before in
+    let k = fits m in
+    running-begun _ _ _ (k .before .walk-fits .ensures) (k .if1 .left) _ (m .stand-of .ensures) _ (a .asks .ensures) (c .before .if2 .left)
+    _ (c .begins .ensures)
 
 pub running-fits-spec : {M : Type 1} → statement M
 running-fits-spec = tie.close (tie.spec walk-fits-requires returns cast-asks cast-asks-2 stand-of-requires asks-requires returns-2 begins-requires returns-3)

@@ -3,9 +3,35 @@ use mathlib.Core.Path.{sym, _∙_}
 use native.Mathlib.Omega.{arith}
 use borrow.Author.Needs.{needs}
 use borrow.Author.Tests.{not-false}
-use Rattle.fitness.proofs.Laws.{falls-below, few-entries, walk-low, walk-high, walk-none, walk-many, walk-short, walk-empty, walk-over, walk-rising, walk-past, walk-entries}
+use Rattle.fitness.proofs.Laws.{Sized, falls-below, few-entries, walk-low, walk-high, walk-none, walk-many, walk-short, walk-empty, walk-over}
+use Rattle.fitness.proofs.Laws.{walk-rising, walk-past, walk-entries}
 use Rattle.fitness.proofs.walk_fits.Statement.{statement}
 use Rattle.fitness.proofs.walk_fits.Tie as tie
+
+-- the call's start, from the first test passed
+abbrev start : tie.Else1 → tie.Start
+start c = c .before .before .before .before .before
+
+-- the fourth test passed, from the seventh
+abbrev fourth : tie.Else7 → tie.Else4
+fourth c = c .before .before .before
+
+abbrev first : tie.Else4 → tie.Else1
+first c = c .before .before .before
+
+-- the sizes and the count passed
+sized : (c : tie.Else7) → let a = start (first (fourth c)) .args in Sized (a .s) (a .tables .now)
+sized c =
+    let d = fourth c in
+    record {
+      low = first d .if1 .left;
+      high = d .before .before .if2 .left;
+      some = d .before .if3 .left;
+      most = d .if4 .left;
+      room = c .before .before .if5 .left;
+      first = c .before .if6 .left;
+      within = c .if7 .left;
+    }
 
 cast-dim : tie.Need-cast-dim
 cast-dim c = search needs
@@ -17,13 +43,13 @@ returns : tie.Need-returns
 returns c = walk-low _ _ (c .if1 .taken)
 
 returns-2 : tie.Need-returns-2
-returns-2 c = walk-high _ _ (c .before .if1 .left) (c .if2 .taken)
+returns-2 c = walk-high _ _ (c .if2 .taken)
 
 returns-3 : tie.Need-returns-3
-returns-3 c = walk-none _ _ (c .before .before .if1 .left) (c .before .if2 .left) (c .if3 .taken)
+returns-3 c = walk-none _ _ (c .if3 .taken)
 
 returns-4 : tie.Need-returns-4
-returns-4 c = walk-many _ _ (c .before .before .before .if1 .left) (c .before .before .if2 .left) (c .before .if3 .left) (c .if4 .taken)
+returns-4 c = walk-many _ _ (c .if4 .taken)
 
 add-if5 : tie.Need-add-if5
 add-if5 c = search needs
@@ -32,32 +58,28 @@ mul-if5 : tie.Need-mul-if5
 mul-if5 c = record { fits = few-entries _ _ (c .before .before .if2 .left) (c .if4 .left) }
 
 returns-5 : tie.Need-returns-5
-returns-5 c = walk-short _ _ (c .before .before .before .before .if1 .left) (c .before .before .before .if2 .left) (c .before .before .if3 .left) (c .before .if4 .left) (c .if5 .taken)
+returns-5 c = walk-short _ _ (c .if5 .taken)
 
 returns-6 : tie.Need-returns-6
-returns-6 c = walk-empty _ _ (c .before .before .before .before .before .if1 .left) (c .before .before .before .before .if2 .left) (c .before .before .before .if3 .left) (c .before .before .if4 .left) (c .before .if5 .left) (c .if6 .taken)
+returns-6 c = walk-empty _ _ (c .if6 .taken)
 
 cast-if7 : tie.Need-cast-if7
 cast-if7 c = search needs
 
 returns-7 : tie.Need-returns-7
-returns-7 c = walk-over _ _ (c .before .before .before .before .before .before .if1 .left) (c .before .before .before .before .before .if2 .left) (c .before .before .before .before .if3 .left) (c .before .before .before .if4 .left) (c .before .before .if5 .left) (c .before .if6 .left) (c .if7 .taken)
+returns-7 c = walk-over _ _ (c .if7 .taken)
 
 positions-fall-requires : tie.Need-positions-fall-requires
 positions-fall-requires c κs = search needs
 
 returns-8 : tie.Need-returns-8
-returns-8 c =
-    let g = c .before .before in
-    walk-rising _ _ (g .before .before .before .before .before .before .if1 .left) (g .before .before .before .before .before .if2 .left) (g .before .before .before .before .if3 .left) (g .before .before .before .if4 .left) (g .before .before .if5 .left) (g .before .if6 .left) (g .if7 .left) _ (c .before .positions-fall .ensures) (c .if8 .taken)
+returns-8 c = walk-rising _ _ _ (c .before .positions-fall .ensures) (c .if8 .taken)
 
 positions-past-requires : tie.Need-positions-past-requires
 positions-past-requires c κs = search needs
 
 returns-9 : tie.Need-returns-9
-returns-9 c =
-    let g = c .before .before .before .before in
-    walk-past _ _ (g .before .before .before .before .before .before .if1 .left) (g .before .before .before .before .before .if2 .left) (g .before .before .before .before .if3 .left) (g .before .before .before .if4 .left) (g .before .before .if5 .left) (g .before .if6 .left) (g .if7 .left) _ (c .before .before .before .positions-fall .ensures) (c .before .before .if8 .left) _ (c .before .positions-past .ensures) (c .if9 .taken)
+returns-9 c = walk-past _ _ _ (c .before .before .before .positions-fall .ensures) _ (c .before .positions-past .ensures) (c .if9 .taken)
 
 entries-fit-requires : tie.Need-entries-fit-requires
 entries-fit-requires c κs =
@@ -66,8 +88,30 @@ entries-fit-requires c κs =
 
 returns-10 : tie.Need-returns-10
 returns-10 c =
-    let g = c .before .before .before .before .before in
-    walk-entries _ _ (g .before .before .before .before .before .before .if1 .left) (g .before .before .before .before .before .if2 .left) (g .before .before .before .before .if3 .left) (g .before .before .before .if4 .left) (g .before .before .if5 .left) (g .before .if6 .left) (g .if7 .left) _ (c .before .before .before .before .positions-fall .ensures) (c .before .before .before .if8 .left) _ (c .before .before .positions-past .ensures) (c .before .if9 .left) _ (c .entries-fit .ensures)
+    let p = c .before in
+    let f = p .before .before in
+    walk-entries _ _ _ (f .before .positions-fall .ensures) _ (p .before .positions-past .ensures)
+    (sized (f .before .before)) (f .if8 .left) (p .if9 .left) _ (c .entries-fit .ensures)
 
 pub walk-fits-spec : {M : Type 1} → statement M
-walk-fits-spec = tie.close (tie.spec cast-dim cast-darts returns returns-2 returns-3 returns-4 add-if5 mul-if5 returns-5 returns-6 cast-if7 returns-7 positions-fall-requires returns-8 positions-past-requires returns-9 entries-fit-requires returns-10)
+walk-fits-spec =
+    tie.close
+    (tie.spec
+    cast-dim
+    cast-darts
+    returns
+    returns-2
+    returns-3
+    returns-4
+    add-if5
+    mul-if5
+    returns-5
+    returns-6
+    cast-if7
+    returns-7
+    positions-fall-requires
+    returns-8
+    positions-past-requires
+    returns-9
+    entries-fit-requires
+    returns-10)

@@ -9,6 +9,17 @@ use Rattle.reader.proofs.Laws.{unfit-dim, begin-dim, begin-room, begin-
 use Rattle.reader.proofs.begin.Statement.{statement}
 use Rattle.reader.proofs.begin.Tie as tie
 
+-- the call's start, from a dimension that fits
+abbrev start : tie.Else2 → tie.Start
+start c = c .before .before .before .before
+
+-- N and n are within the limits
+dims : (c : tie.Else2) → (1 ≤ start c .args .first / 16) × (start c .args .first / 16 ≤ 6)
+dims c = (omega arith, omega arith)
+
+darts : (c : tie.Else2) → let a = start c .args in (1 ≤ a .first % 16 * 256 + a .second + 1) × (a .first % 16 * 256 + a .second + 1 ≤ 4096)
+darts c = (omega arith, omega arith)
+
 cast-dim : tie.Need-cast-dim
 cast-dim c = search needs
 
@@ -51,17 +62,18 @@ refused-requires-3 c κs = search needs
 
 returns-3 : tie.Need-returns-3
 unfolding headed
-returns-3 c = begin-room _ _ _ _ _ (c .refused3 .ensures .0) (c .refused3 .ensures .1) (fits-dim _ (omega arith) (omega arith)) (rw (size-is _ _) at (c .before .if3 .taken))
+returns-3 c =
+    begin-room _ _ _ _ _ (c .refused3 .ensures .0) (c .refused3 .ensures .1) (fits-dim _ (omega arith) (omega arith))
+    (rw (size-is _ _) at (c .before .if3 .taken))
 
 blank-requires : tie.Need-blank-requires
 blank-requires c κs = search needs
 
 go-on-requires : tie.Need-go-on-requires
 go-on-requires c κs =
-    let a = c .before .before .before .before .before .before .before .before .before .before .args in
-    let hN : (1 ≤ a .first / 16) × (a .first / 16 ≤ 6) = (omega arith, omega arith) in
-    let hn : (1 ≤ a .first % 16 * 256 + a .second + 1) × (a .first % 16 * 256 + a .second + 1 ≤ 4096) = (omega arith, omega arith) in
-    begin-ready _ _ _ _ _ hN hn _ (c .before .before .before .blank .ensures) (c .before .before .before .before .before .before .before .before .before .before .pre)
+    let b = c .before .before .before in
+    let e = b .before .before .before in
+    begin-ready _ _ _ _ _ (dims e) (darts e) _ (b .blank .ensures) (start e .pre)
 
 same-length : tie.Need-same-length
 same-length c = search needs
@@ -69,10 +81,12 @@ same-length c = search needs
 returns-4 : tie.Need-returns-4
 unfolding headed
 returns-4 c =
-    let a = c .before .before .before .before .before .before .before .before .before .before .before .before .before .args in
-    let hN : (1 ≤ a .first / 16) × (a .first / 16 ≤ 6) = (omega arith, omega arith) in
-    let hn : (1 ≤ a .first % 16 * 256 + a .second + 1) × (a .first % 16 * 256 + a .second + 1 ≤ 4096) = (omega arith, omega arith) in
-    begin-walk _ _ _ _ _ _ _ _ _ (begin-blank _ _ _ _ (c .before .before .before .before .before .before .blank .ensures)) (c .before .before .go-on .ensures) (fresh-hand _ _) hN hn (omega (arith, size-is (a .first / 16) (a .first % 16 * 256 + a .second + 1), c .before .before .before .before .before .before .before .before .if3 .left))
+    let g = c .before .before in
+    let b = g .before .before .before .before in
+    let o = b .before .before in
+    let e = o .before in
+    begin-walk _ _ _ _ _ _ _ _ _ (begin-blank _ _ _ _ (b .blank .ensures)) (g .go-on .ensures) (fresh-hand _ _) (dims e) (darts e)
+    (rw (size-is _ _) at (o .if3 .left))
 
 pub begin-spec : {M : Type 1} → statement M
 begin-spec =

@@ -5,6 +5,10 @@ use Rattle.reader.proofs.Laws.{close-as, close-unfit, unchanged-left}
 use Rattle.reader.proofs.close.Statement.{statement}
 use Rattle.reader.proofs.close.Tie as tie
 
+-- the call's start
+abbrev start : tie.After-fit → tie.Start
+start c = c .before .before .before
+
 fit-requires : tie.Need-fit-requires
 fit-requires c κs = search needs
 
@@ -16,8 +20,10 @@ same-length c = search needs
 
 returns : tie.Need-returns
 returns c =
-    let s = c .before .before .before .before .before .before .before .before in
-    close-as (s .args .s) (s .args .tables .now) _ (sym (c .before .before .before .before .before .fit .ensures) ∙ c .before .before .before .before .if1 .taken) (c .before .before .close-fit .ensures)
+    let r = c .before .before in
+    let m = r .before .before in
+    let a = start (m .before) .args in
+    close-as (a .s) (a .tables .now) _ (sym (m .before .fit .ensures) ∙ m .if1 .taken) (r .close-fit .ensures)
 
 unchanged-requires : tie.Need-unchanged-requires
 unchanged-requires c κs = search needs
@@ -27,8 +33,10 @@ same-length-2 c = search needs
 
 returns-2 : tie.Need-returns-2
 returns-2 c =
-    let s = c .before .before .before .before .before in
-    close-unfit (s .args .s) (s .args .tables .now) _ (sym (c .before .before .fit .ensures) ∙ c .before .if1 .left) (unchanged-left _ (s .args .s) _ _ (c .unchanged .ensures .0) (c .unchanged .ensures .1))
+    let m = c .before in
+    let a = start (m .before) .args in
+    close-unfit (a .s) (a .tables .now) _ (sym (m .before .fit .ensures) ∙ m .if1 .left)
+    (unchanged-left _ (a .s) _ _ (c .unchanged .ensures .0) (c .unchanged .ensures .1))
 
 pub close-spec : {M : Type 1} → statement M
 close-spec =

@@ -4,6 +4,10 @@ use Rattle.reader.proofs.Laws.{complete-none, complete-more}
 use Rattle.reader.proofs.page_complete.Statement.{statement}
 use Rattle.reader.proofs.page_complete.Tie as tie
 
+-- the call's start
+abbrev start : tie.After-stand-of → tie.Start
+start c = c .before .before .before
+
 stand-of-requires : tie.Need-stand-of-requires
 stand-of-requires c κs = search needs
 
@@ -17,7 +21,10 @@ held-requires : tie.Need-held-requires
 held-requires c κs = search needs
 
 returns : tie.Need-returns
-returns c = complete-none _ (c .before .before .before .before .before .before .before .args .s) _ (c .before .before .before .before .stand-of .ensures) _ _ (c .before .before .before .if1 .taken) (c .held .ensures .0) (c .held .ensures .1)
+returns c =
+    let m = c .before .before .before in
+    let k = m .before in
+    complete-none _ (start k .args .s) _ (k .stand-of .ensures) _ _ (m .if1 .taken) (c .held .ensures .0) (c .held .ensures .1)
 
 cast-spoiled : tie.Need-cast-spoiled
 cast-spoiled c = search needs
@@ -32,7 +39,11 @@ same-length : tie.Need-same-length
 same-length c = search needs
 
 returns-2 : tie.Need-returns-2
-returns-2 c = complete-more _ (c .before .before .before .before .before .before .before .before .before .before .args .s) _ (c .before .before .before .before .before .before .before .stand-of .ensures) _ _ _ (c .before .before .before .before .before .before .if1 .left) (c .before .before .spoiled .ensures)
+returns-2 c =
+    let r = c .before .before in
+    let m = r .before .before .before .before in
+    let k = m .before in
+    complete-more _ (start k .args .s) _ (k .stand-of .ensures) _ _ _ (m .if1 .left) (r .spoiled .ensures)
 
 pub page-complete-spec : {M : Type 1} → statement M
 page-complete-spec =

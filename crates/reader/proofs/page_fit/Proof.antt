@@ -5,37 +5,50 @@ use lib.ListN.{length, length-map}
 use Rattle.rules.specs.declared.State.{State}
 use Rattle.rules.specs.declared.State.the-variants.{Header, Running, Complete, Closed, Refused}
 use Rattle.rules.specs.Stream.{unpack}
-use Rattle.rules.specs.Session.{pageAs}
+use Rattle.rules.specs.Session.{Left, pageAs}
 use Rattle.reader.proofs.Laws.{by-state, header-bits, running-ready, complete-limits, unchanged-left}
 use Rattle.reader.proofs.page_fit.Statement.{statement}
 use Rattle.reader.proofs.page_fit.Tie as tie
 
+-- the call's start
+abbrev start : tie.After-slice-known → tie.Start
+start c = c .before .before
+
 seven : (c : tie.Start) → length (c .args .s .positions) ≡ 7
 seven c = sym (length-map (c .args .s .positions) (λ v. v)) ∙ c .good .0 .1 .1 .1 .1 .1 .1 .0 .1 .0 .1
+
+-- what is left by the state is what is left
+by : (c : tie.Start) (st : State) (l : Left) → c .args .s .state ≡ st
+    → l ≡ pageAs st (c .args .s) (unpack (c .args .page .now)) (c .args .tables .now)
+    → l ≡ pageAs (c .args .s .state) (c .args .s) (unpack (c .args .page .now)) (c .args .tables .now)
+by c st l q e = by-state (λ (x : State). pageAs x (c .args .s) (unpack (c .args .page .now)) (c .args .tables .now)) (c .args .s) st l q e
 
 enum-told : tie.Need-enum-told
 enum-told c = search needs
 
 page-header-requires : tie.Need-page-header-requires
 page-header-requires c κs =
-    let s = c .before .before .before .before .before in
-    header-bits (s .args .s) (s .args .tables .now) (seven s) (s .pre) (c .before .enum-told .given .1)
+    let m = c .before in
+    let s = start (m .before .before) in
+    header-bits (s .args .s) (s .args .tables .now) (seven s) (s .pre) (m .enum-told .given .1)
 
 enum-told-2 : tie.Need-enum-told-2
 enum-told-2 c = search needs
 
 page-running-requires : tie.Need-page-running-requires
 page-running-requires c κs =
-    let s = c .before .before .before .before .before in
-    running-ready (s .args .s) (s .args .tables .now) (seven s) (s .pre) _ (c .before .enum-told2 .given .1)
+    let m = c .before in
+    let s = start (m .before .before) in
+    running-ready (s .args .s) (s .args .tables .now) (seven s) (s .pre) _ (m .enum-told2 .given .1)
 
 enum-told-3 : tie.Need-enum-told-3
 enum-told-3 c = search needs
 
 page-complete-requires : tie.Need-page-complete-requires
 page-complete-requires c κs =
-    let s = c .before .before .before .before .before in
-    complete-limits (s .args .s) (s .args .tables .now) (seven s) (s .pre) (c .before .enum-told3 .given .1)
+    let m = c .before in
+    let s = start (m .before .before) in
+    complete-limits (s .args .s) (s .args .tables .now) (seven s) (s .pre) (m .enum-told3 .given .1)
 
 enum-told-4 : tie.Need-enum-told-4
 enum-told-4 c = search needs
@@ -55,8 +68,9 @@ same-length c = search needs
 returns : tie.Need-returns
 unfolding pageAs
 returns c =
-    let s = c .before .before .before .before .before .before .before .before in
-    by-state (λ (st : State). pageAs st (s .args .s) (unpack (s .args .page .now)) (s .args .tables .now)) (s .args .s) Header _ (c .before .before .before .before .enum-told .given .1) (c .before .before .page-header .ensures)
+    let r = c .before .before in
+    let m = r .before .before in
+    by (start (m .before .before)) Header _ (m .enum-told .given .1) (r .page-header .ensures)
 
 same-length-2 : tie.Need-same-length-2
 same-length-2 c = search needs
@@ -64,8 +78,9 @@ same-length-2 c = search needs
 returns-2 : tie.Need-returns-2
 unfolding pageAs
 returns-2 c =
-    let s = c .before .before .before .before .before .before .before .before in
-    by-state (λ (st : State). pageAs st (s .args .s) (unpack (s .args .page .now)) (s .args .tables .now)) (s .args .s) Running _ (c .before .before .before .before .enum-told2 .given .1) (c .before .before .page-running .ensures)
+    let r = c .before .before in
+    let m = r .before .before in
+    by (start (m .before .before)) Running _ (m .enum-told2 .given .1) (r .page-running .ensures)
 
 same-length-3 : tie.Need-same-length-3
 same-length-3 c = search needs
@@ -73,20 +88,22 @@ same-length-3 c = search needs
 returns-3 : tie.Need-returns-3
 unfolding pageAs
 returns-3 c =
-    let s = c .before .before .before .before .before .before .before .before in
-    by-state (λ (st : State). pageAs st (s .args .s) (unpack (s .args .page .now)) (s .args .tables .now)) (s .args .s) Complete _ (c .before .before .before .before .enum-told3 .given .1) (c .before .before .page-complete .ensures)
+    let r = c .before .before in
+    let m = r .before .before in
+    by (start (m .before .before)) Complete _ (m .enum-told3 .given .1) (r .page-complete .ensures)
 
 returns-4 : tie.Need-returns-4
 unfolding pageAs
 returns-4 c =
-    let s = c .before .before .before .before .before in
-    by-state (λ (st : State). pageAs st (s .args .s) (unpack (s .args .page .now)) (s .args .tables .now)) (s .args .s) Closed _ (c .before .enum-told4 .given .1) (unchanged-left _ (s .args .s) _ _ (c .unchanged .ensures .0) (c .unchanged .ensures .1))
+    let s = start (c .before .before .before) in
+    by s Closed _ (c .before .enum-told4 .given .1) (unchanged-left _ (s .args .s) _ _ (c .unchanged .ensures .0) (c .unchanged .ensures .1))
 
 returns-5 : tie.Need-returns-5
 unfolding pageAs
 returns-5 c =
-    let s = c .before .before .before .before .before .before in
-    by-state (λ (st : State). pageAs st (s .args .s) (unpack (s .args .page .now)) (s .args .tables .now)) (s .args .s) (Refused _ _) _ (c .before .before .state .given .1) (unchanged-left _ (s .args .s) _ _ (c .unchanged2 .ensures .0) (c .unchanged2 .ensures .1))
+    let m = c .before .before in
+    let s = start (m .before .before) in
+    by s (Refused _ _) _ (m .state .given .1) (unchanged-left _ (s .args .s) _ _ (c .unchanged2 .ensures .0) (c .unchanged2 .ensures .1))
 
 pub page-fit-spec : {M : Type 1} → statement M
 page-fit-spec =

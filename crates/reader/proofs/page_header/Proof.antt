@@ -5,11 +5,20 @@ use Rattle.reader.proofs.Laws.{header-none, header-one, header-kept, he
 use Rattle.reader.proofs.page_header.Statement.{statement}
 use Rattle.reader.proofs.page_header.Tie as tie
 
+-- the call's start, from the test of what waits
+abbrev none : tie.Then1 → tie.Start
+none c = c .before .before .before .before
+
+abbrev eight : tie.Else1 → tie.Start
+eight c = c .before .before .before .before
+
 header-waits-requires : tie.Need-header-waits-requires
 header-waits-requires c κs = search needs
 
 returns : tie.Need-returns
-returns c = header-none _ (c .before .before .before .before .before .before .args .s) _ _ (c .before .before .if1 .taken) (c .before .if2 .taken) (c .header-waits .ensures .0) (c .header-waits .ensures .1)
+returns c =
+    let k = c .before .before in
+    header-none _ (none k .args .s) _ _ (k .if1 .taken) (c .before .if2 .taken) (c .header-waits .ensures .0) (c .header-waits .ensures .1)
 
 shared-slice-read-header-waits : tie.Need-shared-slice-read-header-waits
 shared-slice-read-header-waits c = search needs
@@ -24,8 +33,10 @@ header-waits-requires-2 c κs = search needs
 
 returns-2 : tie.Need-returns-2
 returns-2 c =
+    let m = c .before .before in
+    let k = m .before .before in
     let x = c .before .shared-slice-known2 .given 0 in
-    header-one _ (c .before .before .before .before .before .before .before .before .args .s) _ _ (c .before .before .before .before .if1 .taken) (c .before .before .if3 .taken) (omega arith) (c .header-waits2 .ensures .0) (c .header-waits2 .ensures .1)
+    header-one _ (none k .args .s) _ _ (k .if1 .taken) (m .if3 .taken) (omega arith) (c .header-waits2 .ensures .0) (c .header-waits2 .ensures .1)
 
 shared-slice-read-begin : tie.Need-shared-slice-read-begin
 shared-slice-read-begin c = search needs
@@ -41,17 +52,21 @@ same-length c = search needs
 
 returns-3 : tie.Need-returns-3
 returns-3 c =
-    let x = c .before .before .before .before .shared-slice-known4 .given 0 in
-    let y = c .before .before .before .before .shared-slice-known4 .given 1 in
-    header-two _ (c .before .before .before .before .before .before .before .before .before .before .before .before .args .s) _ _ _ (c .before .before .before .before .before .before .before .before .if1 .taken) (omega arith) (omega arith) (omega arith) (c .before .before .begin .ensures)
+    let m = c .before .before .before .before in
+    let k = m .before .before .before .before in
+    let x = m .shared-slice-known4 .given 0 in
+    let y = m .shared-slice-known4 .given 1 in
+    header-two _ (none k .args .s) _ _ _ (k .if1 .taken) (omega arith) (omega arith) (omega arith) (c .before .before .begin .ensures)
 
 header-waits-requires-3 : tie.Need-header-waits-requires-3
 header-waits-requires-3 c κs = search needs
 
 returns-4 : tie.Need-returns-4
 returns-4 c =
-    let s = c .before .before .before .before .before .before in
-    header-kept _ (s .args .s) _ _ (waits-byte _ (s .pre .0) (c .before .before .if1 .left)) (c .before .if4 .taken) (s .pre .1) (c .header-waits3 .ensures .0) (c .header-waits3 .ensures .1)
+    let k = c .before .before in
+    let s = eight k in
+    header-kept _ (s .args .s) _ _ (waits-byte _ (s .pre .0) (k .if1 .left)) (c .before .if4 .taken) (s .pre .1)
+    (c .header-waits3 .ensures .0) (c .header-waits3 .ensures .1)
 
 cast-begin : tie.Need-cast-begin
 cast-begin c = search needs
@@ -67,9 +82,11 @@ same-length-2 c = search needs
 
 returns-5 : tie.Need-returns-5
 returns-5 c =
-    let s = c .before .before .before .before .before .before .before .before .before .before .before in
-    let x = c .before .before .before .before .shared-slice-known5 .given 0 in
-    header-last _ (s .args .s) _ _ _ (waits-byte _ (s .pre .0) (c .before .before .before .before .before .before .before .if1 .left)) (omega arith) (s .pre .1) (omega arith) (c .before .before .begin2 .ensures)
+    let m = c .before .before .before .before in
+    let k = m .before .before .before in
+    let s = eight k in
+    let x = m .shared-slice-known5 .given 0 in
+    header-last _ (s .args .s) _ _ _ (waits-byte _ (s .pre .0) (k .if1 .left)) (omega arith) (s .pre .1) (omega arith) (c .before .before .begin2 .ensures)
 
 pub page-header-spec : {M : Type 1} → statement M
 page-header-spec =

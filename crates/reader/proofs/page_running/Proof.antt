@@ -22,7 +22,10 @@ same-length : tie.Need-same-length
 same-length c = search needs
 
 returns : tie.Need-returns
-returns c = running-goes _ (c .before .before .before .before .before .before .before .before .before .args .s) _ (c .before .before .before .before .before .before .stand-of .ensures) _ _ _ (c .before .before .go-on .ensures)
+returns c =
+    let g = c .before .before in
+    let k = g .before .before .before .before in
+    running-goes _ (k .before .before .before .args .s) _ (k .stand-of .ensures) _ _ _ (g .go-on .ensures)
 
 pub page-running-spec : {M : Type 1} → statement M
 page-running-spec =

@@ -11,13 +11,18 @@ page-header-requires : tie.Need-page-header-requires
 page-header-requires c κs = opened-bits _ (c .before .«open» .ensures)
 
 close-fit-requires : tie.Need-close-fit-requires
-close-fit-requires c κs = read-fit _ _ _ _ _ (c .before .before .before .before .before .before .«open» .ensures) (c .before .before .before .before .page-header .ensures)
+close-fit-requires c κs =
+    let m = c .before .before .before .before in
+    read-fit _ _ _ _ _ (m .before .before .«open» .ensures) (m .page-header .ensures)
 
 same-length : tie.Need-same-length
 same-length c = search needs
 
 returns : tie.Need-returns
-returns c = read-closed _ _ _ _ _ (c .before .before .before .before .before .before .before .before .before .before .«open» .ensures) (c .before .before .before .before .before .before .before .before .page-header .ensures) _ _ (c .before .before .before .close-fit .ensures)
+returns c =
+    let k = c .before .before .before in
+    let m = k .before .before .before .before .before in
+    read-closed _ _ _ _ _ (m .before .before .«open» .ensures) (m .page-header .ensures) _ _ (k .close-fit .ensures)
 
 pub read-spec : {M : Type 1} → statement M
 read-spec =

@@ -29,7 +29,9 @@ rem-result : tie.Need-rem-result
 rem-result c = weight-some _ _ (c .before .before .before .pre .0) (c .before .before .before .pre .1) (c .before .before .if1 .left) (c .before .if2 .left)
 
 returns-3 : tie.Need-returns-3
-returns-3 c = let s = c .before .before .before in fill-some _ _ (s .pre .0) (s .pre .1) (c .before .before .if1 .left) (c .before .if2 .left) (c .shared-slice-known .given (s .args .c .at) .fits) _ refl
+returns-3 c =
+    let s = c .before .before .before in
+    fill-some _ _ (s .pre .0) (s .pre .1) (c .before .before .if1 .left) (c .before .if2 .left) (c .shared-slice-known .given (s .args .c .at) .fits) _ refl
 
 pub fill-set-spec : {M : Type 1} → statement M
 fill-set-spec =

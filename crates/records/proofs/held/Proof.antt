@@ -24,7 +24,7 @@ cast-t15 : tie.Need-cast-t15
 cast-t15 c = search needs
 
 returns : tie.Need-returns
-returns c = (refl, answer-steps _ _ (c .steps-of .ensures))
+returns c = (refl, answer-steps _ _ (c .before .before .args .stand) (c .steps-of .ensures))
 
 pub held-spec : {M : Type 1} → statement M
 held-spec = tie.close (tie.spec steps-of-requires cast-t12 cast-t13 cast-t14 cast-t15 returns)

@@ -28,7 +28,9 @@ same-length : tie.Need-same-length
 same-length c = search needs
 
 returns : tie.Need-returns
-returns c = spoiled-left _ _ _ _ _ _ _ _ (c .before .before .before .before .before .steps-of .ensures) (c .before .before .before .blank .ensures) (c .refused .ensures)
+returns c =
+    spoiled-left _ _ _ _ _ _ _ _ (c .before .before .before .before .before .steps-of .ensures) (c .before .before .before .blank .ensures)
+    (c .refused .ensures)
 
 pub spoiled-spec : {M : Type 1} → statement M
 spoiled-spec =

@@ -18,22 +18,23 @@ loop-holds c = deducing-start _ _ _ _ _
 add-loop : tie.Need-add-loop Inv-loop μ-loop
 add-loop c = omega arith
 
-follow-requires : tie.Need-follow-requires Inv-loop μ-loop
-follow-requires c κs = search needs
+known-link-requires : tie.Need-known-link-requires Inv-loop μ-loop
+known-link-requires c κs = search needs
 
-follow-requires-2 : tie.Need-follow-requires-2 Inv-loop μ-loop
-follow-requires-2 c κs = search needs
+known-link-requires-2 : tie.Need-known-link-requires-2 Inv-loop μ-loop
+known-link-requires-2 c κs = search needs
 
-follow-requires-3 : tie.Need-follow-requires-3 Inv-loop μ-loop
-follow-requires-3 c κs = search needs
+known-link-requires-3 : tie.Need-known-link-requires-3 Inv-loop μ-loop
+known-link-requires-3 c κs = search needs
 
 returns : tie.Need-returns Inv-loop μ-loop
 returns c =
     let a = c .before .before .before .before .before .before .before .before .args in
     let l = c .before .before .before .before .before .before .loop in
-    let g = c .before .before .before .before .follow in
-    let f = c .before .before .before .follow2 in
-    deducing-here (a .dim) (a .darts) (a .tables .now) (a .j) (a .b .0) (l .i) (l .inv) (omega arith) (g .result .0) (g .ensures) (f .result .0) (f .ensures) (c .before .if1 .taken) (c .follow3 .result .0) (c .follow3 .ensures)
+    let g = c .before .before .before .before .known-link in
+    let f = c .before .before .before .known-link2 in
+    deducing-here (a .dim) (a .darts) (a .tables .now) (a .j) (a .b .0) (l .i) (l .inv) (omega arith) (g .result .0) (g .ensures) (f .result .0) (f .ensures)
+    (c .before .if1 .taken) (c .known-link3 .result .0) (c .known-link3 .ensures)
 
 add-i : tie.Need-add-i Inv-loop μ-loop
 add-i c = omega arith
@@ -45,9 +46,10 @@ loop-again : tie.Need-loop-again Inv-loop μ-loop
 loop-again c =
     let a = c .before .before .before .before .before .before .before .args in
     let l = c .before .before .before .before .before .loop in
-    let g = c .before .before .before .follow in
-    let f = c .before .before .follow2 in
-    deducing-next (a .dim) (a .darts) (a .tables .now) (a .j) (a .b .0) (l .i) (l .inv) (omega arith) (g .result .0) (g .ensures) (f .result .0) (f .ensures) (c .if1 .left)
+    let g = c .before .before .before .known-link in
+    let f = c .before .before .known-link2 in
+    deducing-next (a .dim) (a .darts) (a .tables .now) (a .j) (a .b .0) (l .i) (l .inv) (omega arith) (g .result .0) (g .ensures) (f .result .0) (f .ensures)
+    (c .if1 .left)
 
 returns-2 : tie.Need-returns-2 Inv-loop μ-loop
 returns-2 c =
@@ -56,4 +58,18 @@ returns-2 c =
     deducing-end (a .dim) (a .darts) (a .tables .now) (a .j) (a .b .0) (l .i) (l .inv) (omega arith)
 
 pub deduce-spec : {M : Type 1} → statement M
-deduce-spec = tie.close (tie.spec Inv-loop μ-loop loop-holds add-loop follow-requires follow-requires-2 follow-requires-3 returns add-i loop-less loop-again returns-2)
+deduce-spec =
+    tie.close
+    (tie.spec
+    Inv-loop
+    μ-loop
+    loop-holds
+    add-loop
+    known-link-requires
+    known-link-requires-2
+    known-link-requires-3
+    returns
+    add-i
+    loop-less
+    loop-again
+    returns-2)

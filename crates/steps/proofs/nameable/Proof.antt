@@ -10,11 +10,12 @@ returns c = rw (le-ltb _ _ (c .if1 .taken))
 returns-2 : tie.Need-returns-2
 returns-2 c = rw (lt-ltb _ _ (c .before .before .before .if1 .left), eq-eqb _ _ (c .if2 .taken))
 
-follow-requires : tie.Need-follow-requires
-follow-requires c κs = search needs
+known-link-requires : tie.Need-known-link-requires
+known-link-requires c κs = search needs
 
 returns-3 : tie.Need-returns-3
-returns-3 c = rw (lt-ltb _ _ (c .before .before .before .before .before .if1 .left), ne-eqb _ _ (c .before .before .if2 .left), ← c .before .follow .ensures)
+returns-3 c =
+    rw (lt-ltb _ _ (c .before .before .before .before .before .if1 .left), ne-eqb _ _ (c .before .before .if2 .left), ← c .before .known-link .ensures)
 
 pub nameable-spec : {M : Type 1} → statement M
-nameable-spec = tie.close (tie.spec returns returns-2 follow-requires returns-3)
+nameable-spec = tie.close (tie.spec returns returns-2 known-link-requires returns-3)

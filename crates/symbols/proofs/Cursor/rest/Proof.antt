@@ -62,4 +62,19 @@ returns-2 c = absurd (omega (arith, c .before .loop .inv .taking .upTo, c .befor
 pub rest-spec : {M : Type 1} → statement M
 rest-spec =
     tie.close
-    (tie.spec Inv-loop μ-loop loop-holds next-bit-requires enum-told returns enum-known-d mul-value enum-known-d-2 mul-value-2 add-value add-bits loop-less loop-again returns-2)
+    (tie.spec
+    Inv-loop
+    μ-loop
+    loop-holds
+    next-bit-requires
+    enum-told
+    returns
+    enum-known-d
+    mul-value
+    enum-known-d-2
+    mul-value-2
+    add-value
+    add-bits
+    loop-less
+    loop-again
+    returns-2)

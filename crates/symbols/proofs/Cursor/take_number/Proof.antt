@@ -72,4 +72,19 @@ returns-2 c =
 pub take-number-spec : {M : Type 1} → statement M
 take-number-spec =
     tie.close
-    (tie.spec Inv-loop μ-loop loop-holds next-bit-requires enum-told returns enum-known-d mul-v enum-known-d-2 mul-v-2 add-v add-i loop-less loop-again returns-2)
+    (tie.spec
+    Inv-loop
+    μ-loop
+    loop-holds
+    next-bit-requires
+    enum-told
+    returns
+    enum-known-d
+    mul-v
+    enum-known-d-2
+    mul-v-2
+    add-v
+    add-i
+    loop-less
+    loop-again
+    returns-2)

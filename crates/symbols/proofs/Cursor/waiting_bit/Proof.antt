@@ -20,7 +20,12 @@ returns c = λ page f.
     record {
       tells = rw (first-one (s .waiting) (s .value) _ (omega arith) (omega arith) refl (c .if1 .taken));
       past = record {
-        fits = record { few = omega arith; holds = holds-one (s .waiting) (s .value) _ (omega arith) (omega arith) refl (f .holds); within = f .within; inByte = f .inByte };
+        fits = record {
+          few = omega arith;
+          holds = holds-one (s .waiting) (s .value) _ (omega arith) (omega arith) refl (f .holds);
+          within = f .within;
+          inByte = f .inByte;
+        };
         gone = refl;
       };
     }
@@ -32,7 +37,12 @@ returns-2 c = λ page f.
     record {
       tells = rw (first-zero (s .waiting) (s .value) _ (omega arith) (omega arith) refl (c .if1 .left));
       past = record {
-        fits = record { few = omega arith; holds = holds-zero (s .waiting) (s .value) _ (omega arith) (omega arith) refl (c .if1 .left); within = f .within; inByte = f .inByte };
+        fits = record {
+          few = omega arith;
+          holds = holds-zero (s .waiting) (s .value) _ (omega arith) (omega arith) refl (c .if1 .left);
+          within = f .within;
+          inByte = f .inByte;
+        };
         gone = refl;
       };
     }

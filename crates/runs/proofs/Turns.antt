@@ -1,0 +1,144 @@
+-- Laws of a turn: the step that is made with the bits at hand is the rules' step, one way through the code at a time. Rests on the laws of a step.
+use Prim.Native.Nat.{ℕ, _+_, _≤_, _<_}
+use mathlib.Core.Path.{_≡_, refl, ap, sym, _∙_}
+use mathlib.Core.Logic.{_≢_, _⊎_, inl, inr}
+use mathlib.Core.Bool.{Bool, true}
+use mathlib.Core.List.{List}
+use native.Mathlib.Omega.{arith}
+use lib.ListN.{length, getD, set, replicate}
+use Rattle.rules.specs.Map.{size, blank, Limits}
+use Rattle.rules.specs.Walk.{Head, head, Partner, partner}
+use Rattle.rules.specs.Stream.{bitsOf, takeSymbol}
+use Rattle.rules.specs.Stream as stream
+use Rattle.rules.specs.Reading.{Step, stepTaken, stepWith, stepAt, step}
+use Rattle.rules.specs.Session.{begins, walkAt}
+use Rattle.rules.specs.Symbols.{toldSymbol}
+use Rattle.rules.specs.Inner.{Emptied, Lowest, Inv, Asks}
+use Rattle.rules.specs.declared.Symbol.{Symbol}
+use Rattle.rules.proofs.Walks.{start-inv}
+use Rattle.rules.proofs.Moves.{moved, step-move}
+use Rattle.symbols.specs.declared.Cursor.{Cursor}
+use Rattle.symbols.specs.declared.Taken.{Taken}
+use Rattle.symbols.specs.declared.Taken.the-variants as taken
+use Rattle.symbols.specs.Cursors.{atHand, CursorFits, told, PastSymbol, PastCode, SymbolTaken}
+use Rattle.steps.specs.declared.Stepped.{Stepped}
+use Rattle.steps.specs.declared.Stepped.the-variants as stepped
+use Rattle.steps.specs.declared.Case.{Case}
+use Rattle.steps.specs.Partners.{partnerFor, toldPartner}
+use Rattle.steps.specs.Steps.{stand, Served, deducedStep, symbolStep, toldStep, Lower, Steps}
+use Rattle.steps.proofs.Steps.{walk-start, partner-stand, stand-limits, stand-seven, serves, known-step}
+use Rattle.runs.specs.declared.Turned.the-variants.{On, Waits, Refused}
+use Rattle.runs.specs.Turns.{Ready, afterStep, toldTurn, Again, Turns}
+
+-- the start may be stepped
+pub ready-start : (N n : ℕ) (c : Cursor) (t page : List ℕ) → (1 ≤ N) × (N ≤ 6) → (1 ≤ n) × (n ≤ 4096) → CursorFits c page → c .waiting ≡ 0
+    → Ready N n (stand 1 (replicate 7 0)) c (blank (size N n) t) page
+ready-start N n c t page hN hn f z = record {
+  inv = rw (walk-start N n t (hn .0) (hn .1) (hN .1)) (start-inv N n t (hn .0) (hn .1) (hN .1));
+  dims = hN .0;
+  fits = f;
+  begun = inl z;
+}
+
+at-rank : {h : Head} {i d j b : ℕ} → h ≡ Head.at i d → h ≡ Head.at j b → i ≡ j
+at-rank e f = cc
+
+at-dart : {h : Head} {i d j b : ℕ} → h ≡ Head.at i d → h ≡ Head.at j b → d ≡ b
+at-dart e f = cc
+
+known-asked : Partner.known ≢ Partner.asked
+known-asked e = let z : _≡_ {A = ℕ} 0 1 = cc in omega arith
+
+deduced-asked : {e : ℕ} → Partner.deduced e ≢ Partner.asked
+deduced-asked q = let z : _≡_ {A = ℕ} 0 1 = cc in omega arith
+
+-- a turn told by its step
+told-after : (N n k : ℕ) (c d : Cursor) (r : Stepped) (ps t page : List ℕ) → toldTurn N n k c (afterStep r d) ps t page ≡ toldStep N n k r ps t (atHand d page)
+unfolding toldTurn toldStep
+told-after N n k c d (stepped.On rank k') ps t page = refl
+told-after N n k c d (stepped.Refused nr) ps t page = refl
+
+-- one turn, at a stand that may be stepped
+module _ {N n k : ℕ} {ps : List ℕ} {c : Cursor} {t page : List ℕ} (y : Ready N n (stand k ps) c t page) where
+  pub ready-limits : Limits N n t
+  ready-limits = stand-limits N n k ps t (y .dims) (y .inv)
+
+  pub ready-seven : length ps ≡ 7
+  ready-seven = stand-seven N n k ps t (y .dims) (y .inv)
+
+  -- the head of the lowest queue that isn't empty is served, by what the tables say is to be done for it
+  pub served : {j : ℕ} → Lowest N k ps j → (x : Case) → toldPartner x ≡ partnerFor N n t j (getD ps j 0) → (x' : Case) → x ≡ x'
+      → Served N n k ps t j (getD ps j 0) (toldPartner x')
+  served {j} low x ex x' e =
+      serves N n k ps t (y .dims) (y .inv) j low (toldPartner x') (partner-stand N n (stand k ps) t j (getD ps j 0) x ex ∙ ap toldPartner e)
+
+  -- where a step goes on, its walk may be stepped with the bits from d on
+  goes-again : (d : Cursor) → CursorFits d page → d .waiting ≡ 0 → (r : Stepped) (ps' t' : List ℕ)
+      → toldStep N n k r ps' t' (atHand d page) ≡ step (walkAt N n (stand k ps) t) (atHand c page) → Lower r ps' → Again N n (afterStep r d) ps' t' page
+  unfolding toldStep Lower Again
+  goes-again d f z (stepped.On rank k') ps' t' e l =
+      let w = walkAt N n (stand k ps) t in
+      let w' = walkAt N n (stand k' ps') t' in
+      let x = step-move w (atHand c page) w' (atHand d page) (sym e) in
+      (record { inv = moved w w' (x .out) (y .inv) (x .move) .inv; dims = y .dims; fits = f; begun = inl z }, l)
+  goes-again d f z (stepped.Refused nr) ps' t' e l = tt
+
+  -- what a turn leaves, from what its step tells with the bits from d on left
+  turns : (d : Cursor) → CursorFits d page → d .waiting ≡ 0 → (r : Stepped) (ps' t' : List ℕ)
+      → toldStep N n k r ps' t' (atHand d page) ≡ step (walkAt N n (stand k ps) t) (atHand c page) → Lower r ps'
+      → Turns N n k ps c t page (afterStep r d) ps' t'
+  turns d f z r ps' t' e l = record { tells = told-after N n k c d r ps' t' page ∙ e; again = goes-again d f z r ps' t' e l }
+
+  -- at the head b of Lj, by what is to be done for it
+  module _ {j b : ℕ} {p : Partner} (v : Served N n k ps t j b p) where
+    stepping : (bs : List Bool) → step (walkAt N n (stand k ps) t) bs ≡ stepWith (walkAt N n (stand k ps) t) bs j b p
+    unfolding step stepAt
+    stepping bs = rw (v .heads, v .case)
+
+    -- bits wait only where a symbol is asked
+    still : p ≢ Partner.asked → c .waiting ≡ 0
+    still ne = go (y .begun)
+      where
+        go : (c .waiting ≡ 0) ⊎ Asks (walkAt N n (stand k ps) t) (bitsOf (c .waiting) (c .value)) → c .waiting ≡ 0
+        go (inl q) = q
+        go (inr a) =
+            let w = walkAt N n (stand k ps) t in
+            let ej : a .rank ≡ j = at-rank (a .next) (v .heads) in
+            let eb : a .dart ≡ b = at-dart (a .next) (v .heads) in
+            absurd (ne (sym (v .case) ∙ (ap (λ (i : ℕ). partner w i b) (sym ej) ∙ (ap (partner w (a .rank)) (sym eb) ∙ a .needs))))
+
+    -- the bits that wait begin the symbol that is asked
+    begun : begins (bitsOf (c .waiting) (c .value)) ≡ true
+    begun = go (y .begun)
+      where
+        go : (c .waiting ≡ 0) ⊎ Asks (walkAt N n (stand k ps) t) (bitsOf (c .waiting) (c .value)) → begins (bitsOf (c .waiting) (c .value)) ≡ true
+        go (inl q) = unfold bitsOf begins in rw q
+        go (inr a) = a .begun
+
+  pub turn-known : {j b : ℕ} → Served N n k ps t j b Partner.known → (ps' : List ℕ) → ps' ≡ set ps j (b + 1) → Turns N n k ps c t page (On j k c) ps' t
+  unfolding stepWith
+  turn-known {j} v ps' e =
+      let x = known-step v refl ps' e in
+      turns c (y .fits) (still v known-asked) (stepped.On j k) ps' t (x .tells (atHand c page) ∙ sym (stepping v (atHand c page))) (x .lower)
+
+  pub turn-deduced : {j b e : ℕ} → Served N n k ps t j b (Partner.deduced e) → (r : Stepped) (ps' t' : List ℕ)
+      → Steps N n k ps t (deducedStep j b e) r ps' t' → Turns N n k ps c t page (afterStep r c) ps' t'
+  unfolding stepWith
+  turn-deduced v r ps' t' x =
+      turns c (y .fits) (still v deduced-asked) r ps' t' (x .tells (atHand c page) ∙ sym (stepping v (atHand c page))) (x .lower)
+
+  module _ {j b : ℕ} (v : Served N n k ps t j b Partner.asked) (got : Taken) (x : SymbolTaken got c page) where
+    taking : step (walkAt N n (stand k ps) t) (atHand c page) ≡ stepTaken (walkAt N n (stand k ps) t) (atHand c page) j b (told got page)
+    unfolding stepWith
+    taking = stepping v (atHand c page) ∙ rw (x .tells)
+
+    pub turn-short : got ≡ taken.Short → Turns N n k ps c t page Waits ps t
+    unfolding toldTurn Again stepTaken told
+    turn-short e = record { tells = sym (taking ∙ rw e); again = tt }
+
+    pub turn-symbol : (s : Symbol) (d : Cursor) → got ≡ taken.Symbol s d → (r : Stepped) (ps' t' : List ℕ)
+        → Steps N n k ps t (symbolStep j b (toldSymbol s)) r ps' t' → Turns N n k ps c t page (afterStep r d) ps' t'
+    unfolding stepTaken told PastSymbol
+    turn-symbol s d e r ps' t' z =
+        let p : PastCode c d page = rw e at (x .past) in
+        turns d (p .fits) (p .used (begun v)) r ps' t' (z .tells (atHand d page) ∙ sym (taking ∙ rw e)) (z .lower)

@@ -1,0 +1,40 @@
+-- A run as the code tells it: how it ends, and what it leaves.
+use Prim.Native.Nat.{ℕ, _≤_}
+use mathlib.Core.Path.{_≡_}
+use mathlib.Core.Bool.{Bool}
+use mathlib.Core.List.{List}
+use lib.ListN.{length}
+use Rattle.rules.specs.Walk.{Walk}
+use Rattle.rules.specs.Reading.{Run, runAll}
+use Rattle.rules.specs.Session.{walkAt}
+use Rattle.rules.specs.Inner.{Inv}
+use Rattle.rules.specs.declared.Stand.{Stand}
+use Rattle.symbols.specs.declared.Cursor.{Cursor}
+use Rattle.symbols.specs.Cursors.{atHand, CursorFits}
+use Rattle.steps.specs.Steps.{stand}
+use Rattle.runs.specs.declared.Halted.{Halted}
+use Rattle.runs.specs.declared.Ran.{Ran}
+use Rattle.runs.specs.declared.Signal.{Signal}
+use Rattle.runs.specs.declared.Signal.the-variants.{Ended, Waits, Refused}
+
+-- a signal as the rules' run
+unfoldable pub signalRun : Signal → Walk → List Bool → Run
+signalRun Ended w bs = Run.ended w bs
+signalRun Waits w bs = Run.waits w bs
+signalRun (Refused nr) w bs = Run.refused nr w
+
+-- a run as the rules tell it
+abbrev pub toldRun : ℕ → ℕ → Ran → List ℕ → List ℕ → Run
+toldRun N n r t page = signalRun (r .signal) (walkAt N n (r .stand) t) (atHand (r .cursor) page)
+
+-- what a run leaves, with the positions that it leaves
+abbrev pub ranAt : Halted → List ℕ → Ran
+ranAt r ps = record { stand = stand (r .count) ps; cursor = r .cursor; signal = r .signal }
+
+-- what a run leaves: no bit waits at the walk's end, and at most thirteen are left where it waits
+pub record Runs (N n : ℕ) (s : Stand) (c : Cursor) (t page : List ℕ) (r : Ran) (t' : List ℕ) : Type 0 where
+  pub tells : toldRun N n r t' page ≡ runAll (walkAt N n s t) (atHand c page)
+  pub fits : CursorFits (r .cursor) page
+  pub inv : Inv (walkAt N n (r .stand) t')
+  pub clean : r .signal ≡ Ended → r .cursor .waiting ≡ 0
+  pub short : r .signal ≡ Waits → length (atHand (r .cursor) page) ≤ 13

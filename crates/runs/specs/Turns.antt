@@ -1,0 +1,46 @@
+-- A turn as the code tells it: a walk that may be stepped with the bits at hand, and what a turn leaves.
+use Prim.Native.Nat.{ℕ, _≤_}
+use mathlib.Core.Path.{_≡_}
+use mathlib.Core.Logic.{_⊎_}
+use mathlib.Core.List.{List}
+use Rattle.rules.specs.Stream.{bitsOf}
+use Rattle.rules.specs.Reading.{Run, Step, step}
+use Rattle.rules.specs.Session.{walkAt}
+use Rattle.rules.specs.Inner.{Emptied, Inv, Asks}
+use Rattle.rules.specs.declared.Stand.{Stand}
+use Rattle.symbols.specs.declared.Cursor.{Cursor}
+use Rattle.symbols.specs.Cursors.{atHand, CursorFits}
+use Rattle.steps.specs.declared.Stepped.{Stepped}
+use Rattle.steps.specs.declared.Stepped.the-variants as stepped
+use Rattle.steps.specs.Steps.{stand}
+use Rattle.runs.specs.declared.Turned.{Turned}
+use Rattle.runs.specs.declared.Turned.the-variants.{On, Waits, Refused}
+
+-- a walk that may be stepped: what holds of it, the bits at hand, and bits wait only where a symbol is asked that they begin
+pub record Ready (N n : ℕ) (s : Stand) (c : Cursor) (t page : List ℕ) : Type 0 where
+  pub inv : Inv (walkAt N n s t)
+  pub dims : 1 ≤ N
+  pub fits : CursorFits c page
+  pub begun : (c .waiting ≡ 0) ⊎ Asks (walkAt N n s t) (bitsOf (c .waiting) (c .value))
+
+-- the turn of a step that was made with the bits from c on left
+abbrev pub afterStep : Stepped → Cursor → Turned
+afterStep (stepped.On rank k) c = On rank k c
+afterStep (stepped.Refused nr) c = Refused nr
+
+-- what a turn came to with k darts numbered and the cursor c, as the rules tell it, by the positions and tables after it
+unfoldable pub toldTurn : ℕ → ℕ → ℕ → Cursor → Turned → List ℕ → List ℕ → List ℕ → Step
+toldTurn N n k c (On rank k' d) ps t page = Step.goes (walkAt N n (stand k' ps) t) (atHand d page)
+toldTurn N n k c Waits ps t page = Step.stops (Run.waits (walkAt N n (stand k ps) t) (atHand c page))
+toldTurn N n k c (Refused nr) ps t page = Step.stops (Run.refused nr (walkAt N n (stand k ps) t))
+
+-- where a turn goes on, its walk may be stepped, and the queues below the rank are empty
+unfoldable pub Again : ℕ → ℕ → Turned → List ℕ → List ℕ → List ℕ → Type 0
+Again N n (On rank k d) ps t page = Ready N n (stand k ps) d t page × Emptied k ps rank
+Again N n Waits ps t page = Unit
+Again N n (Refused nr) ps t page = Unit
+
+-- what a turn leaves
+pub record Turns (N n k : ℕ) (ps : List ℕ) (c : Cursor) (t page : List ℕ) (r : Turned) (ps' t' : List ℕ) : Type 0 where
+  pub tells : toldTurn N n k c r ps' t' page ≡ step (walkAt N n (stand k ps) t) (atHand c page)
+  pub again : Again N n r ps' t' page

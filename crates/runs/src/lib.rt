@@ -1,0 +1,175 @@
+// The run of steps that a page's bits allow, over lent tables and positions: a turn takes a symbol where its step asks
+// for one, and the run ends, waits for bits, or is refused.
+use rules::Stand;
+use rules::WalkNo;
+use steps::Case;
+use steps::Stepped;
+use symbols::Cursor;
+use symbols::Taken;
+ghost use mathlib.Core.Path.{_≡_};
+ghost use Rattle.rules.specs.Inner.{Lowest};
+ghost use Rattle.rules.specs.Walk.{Partner};
+ghost use Rattle.steps.specs.Steps.{stand, Served};
+ghost use Rattle.runs.specs.Turns.{afterStep, Ready, Turns};
+ghost use Rattle.runs.specs.Runs.{ranAt, Runs};
+
+// What a turn comes to: it goes on, with a rank below which all queues are empty, the count and the cursor, or it waits
+// for bits, or it is refused by a number.
+pub enum Turned {
+    On(usize, u16, Cursor),
+    Waits,
+    Refused(u32),
+}
+
+// How a run ends.
+pub enum Signal {
+    Ended,
+    Waits,
+    Refused(u32),
+}
+
+// Where a run leaves the count and the bits, beside the positions, which are lent.
+pub struct Halted {
+    pub count: u16,
+    pub cursor: Cursor,
+    pub signal: Signal,
+}
+
+// Where a run leaves the walk and the bits.
+pub struct Ran {
+    pub stand: Stand,
+    pub cursor: Cursor,
+    pub signal: Signal,
+}
+
+// A run that leaves off here.
+pub fn halt(count: u16, cursor: Cursor, signal: Signal) -> Halted
+    ensures { λ r. ⌜ r ≡ record { count = count; cursor = cursor; signal = signal } ⌝ }
+{
+    Halted {
+        count,
+        cursor,
+        signal,
+    }
+}
+
+// A turn whose step was made with the bits from c on left.
+pub fn after(step: Stepped, c: Cursor) -> Turned
+    ensures { λ r. ⌜ r ≡ afterStep step c ⌝ }
+{
+    match step {
+        Stepped::On(rank, count) => Turned::On(rank, count, c),
+        Stepped::Refused(number) => Turned::Refused(number),
+    }
+}
+
+// The turn at the head b of Lj where a symbol is asked.
+pub fn asked(
+    tables: &mut [u16],
+    positions: &mut [u16],
+    dim: usize,
+    darts: usize,
+    count: u16,
+    j: usize,
+    b: WalkNo,
+    c: Cursor,
+    page: &[u8],
+) -> Turned
+    requires { ⌜ Ready dim darts (stand count (now positions)) c (now tables) (now page) × Served dim darts count (now positions) (now tables) j (b .0) Partner.asked ⌝ }
+    ensures { λ r. ⌜ Turns dim darts count (now (positions .entry)) c (now (tables .entry)) (now (page .entry)) r (now (positions .exit)) (now (tables .exit)) ⌝ }
+{
+    match c.take_symbol(page) {
+        Taken::Short => Turned::Waits,
+        Taken::Symbol(s, d) => after(
+            steps::by_symbol(tables, positions, dim, darts, count, j, b, s),
+            d,
+        ),
+    }
+}
+
+// One turn with the bits at hand, at the head of Lj.
+pub fn turn(
+    tables: &mut [u16],
+    positions: &mut [u16],
+    dim: usize,
+    darts: usize,
+    count: u16,
+    j: usize,
+    c: Cursor,
+    page: &[u8],
+) -> Turned
+    requires { ⌜ Ready dim darts (stand count (now positions)) c (now tables) (now page) × Lowest dim count (now positions) j ⌝ }
+    ensures { λ r. ⌜ Turns dim darts count (now (positions .entry)) c (now (tables .entry)) (now (page .entry)) r (now (positions .exit)) (now (tables .exit)) ⌝ }
+{
+    let b = WalkNo(positions[j]);
+    match steps::partner(tables, dim, darts, j, b) {
+        Case::Known => {
+            steps::passed(positions, j, b);
+            Turned::On(j, count, c)
+        }
+        Case::Deduced(e) => after(
+            steps::by_deduction(tables, positions, dim, darts, count, j, b, e),
+            c,
+        ),
+        Case::Asked => asked(tables, positions, dim, darts, count, j, b, c, page),
+    }
+}
+
+// Every step that needs no bit beyond those at hand; each writes one place of the positions. With the queues below Lj
+// empty, Lj holds the walk numbers from its position up to the count.
+pub fn walk_on(
+    tables: &mut [u16],
+    positions: &mut [u16],
+    dim: usize,
+    darts: usize,
+    count: u16,
+    c: Cursor,
+    page: &[u8],
+) -> Halted
+    requires { ⌜ Ready dim darts (stand count (now positions)) c (now tables) (now page) ⌝ }
+    ensures { λ r. ⌜ Runs dim darts (stand count (now (positions .entry))) c (now (tables .entry)) (now (page .entry)) (ranAt r (now (positions .exit))) (now (tables .exit)) ⌝ }
+{
+    let mut rank = 0;
+    let mut numbered = count;
+    let mut cursor = c;
+    while rank <= dim {
+        if numbered <= positions[rank] {
+            rank += 1;
+        } else {
+            match turn(tables, positions, dim, darts, numbered, rank, cursor, page) {
+                Turned::On(next, k, d) => {
+                    rank = next;
+                    numbered = k;
+                    cursor = d;
+                }
+                Turned::Waits => {
+                    return halt(numbered, cursor, Signal::Waits);
+                }
+                Turned::Refused(number) => {
+                    return halt(numbered, cursor, Signal::Refused(number));
+                }
+            }
+        }
+    }
+    halt(numbered, cursor, Signal::Ended)
+}
+
+// The same from a stand: its positions are lent, so that no step copies them.
+pub fn run(tables: &mut [u16], dim: usize, darts: usize, s: Stand, c: Cursor, page: &[u8]) -> Ran
+    requires { ⌜ Ready dim darts s c (now tables) (now page) ⌝ }
+    ensures { λ r. ⌜ Runs dim darts s c (now (tables .entry)) (now (page .entry)) r (now (tables .exit)) ⌝ }
+{
+    let mut positions = s.positions;
+    let t = walk_on(tables, &mut positions, dim, darts, s.count, c, page);
+    let stand = Stand {
+        count: t.count,
+        positions,
+    };
+    let cursor = t.cursor;
+    let signal = t.signal;
+    Ran {
+        stand,
+        cursor,
+        signal,
+    }
+}

@@ -1,0 +1,210 @@
+-- Laws of a step: the walk of the count, positions and tables that a step leaves is the walk that the rules' step leaves, one way through the code at a time.
+use Prim.Native.Nat.{ℕ, suc, _+_, _≤_, _<_}
+use mathlib.Core.Path.{_≡_, refl, sym, _∙_}
+use mathlib.Core.Logic.{_≢_}
+use mathlib.Core.Bool.{Bool, true, false, not, _&&_}
+use mathlib.Core.List.{List, [], _∷_}
+use native.Mathlib.Numerals.{add-one}
+use native.Mathlib.Omega.{arith}
+use lib.ListN.{length, getD, set, replicate}
+use lib.Dec.{eqb, ltb}
+use borrow.Author.Tests.{ltb-true, eq-eqb, ne-eqb}
+use Rattle.rules.specs.Map.{mark, size, place, link, blank, Limits}
+use Rattle.rules.specs.Walk.{Walk, start, Head, head, linkOf, unknown, Partner, partner, pass, join, fresh, tie, Symbol, apply}
+use Rattle.rules.specs.Reading.{Step, permitted, fault, allow}
+use Rattle.rules.specs.Session.{queuesOf, walkAt}
+use Rattle.rules.specs.Inner.{Shape, Emptied, Lowest, Inv}
+use Rattle.rules.specs.declared.Stand.{Stand}
+use Rattle.rules.proofs.Lists.{and-left}
+use Rattle.rules.proofs.Places.{place-below}
+use Rattle.rules.proofs.Lowest.{head-lowest, emptied-none, emptied-passed}
+use Rattle.rules.proofs.Walks.{start-inv, next-of, deduced-below}
+use Rattle.rules.proofs.Moves.{Move, moved, see-deduced}
+use Rattle.rules.proofs.Fitness.{queues-of}
+use Rattle.steps.specs.declared.Stepped.{Stepped}
+use Rattle.steps.specs.declared.Stepped.the-variants.{On, Refused}
+use Rattle.steps.specs.declared.Case.{Case}
+use Rattle.steps.specs.Partners.{partnerFor, toldPartner}
+use Rattle.steps.specs.Steps.{stand, mayName, Tied, Served, deducedStep, symbolStep, toldStep, Lower, Steps}
+use Rattle.steps.proofs.Partners.{partner-looking}
+
+-- a link's place is within the tables
+pub place-room : (N n : ℕ) (t : List ℕ) (j b : ℕ) → Limits N n t → j ≤ N → b < n → (p : ℕ) → p ≡ place N n j b → p < length t
+place-room N n t j b l hj hb p e = omega (arith, place-below N n j b hj hb, l .room)
+
+-- the walk of a stand and tables
+pub stands : (N n : ℕ) (s : Stand) (t : List ℕ) (w : Walk) → Shape w → w .dim ≡ N → w .darts ≡ n → w .count ≡ s .count
+    → w .positions ≡ s .positions → w .links ≡ t → walkAt N n s t ≡ w
+unfolding walkAt
+stands N n s t w h ed en ec ep et =
+    λ i. record { dim = sym ed i; darts = sym en i; queues = q i; links = sym et i; count = sym ec i; positions = sym ep i }
+  where
+    q : queuesOf (suc N) (s .count) (s .positions) ≡ w .queues
+    q = sym (queues-of w h ∙ rw (ed, ec, ep))
+
+-- the walk of the start
+pub walk-start : (N n : ℕ) (t : List ℕ) → 1 ≤ n → n ≤ 4096 → N ≤ 6 → walkAt N n (stand 1 (replicate 7 0)) (blank (size N n) t) ≡ start N n t
+unfolding start
+walk-start N n t h1 h2 h3 =
+    stands N n (stand 1 (replicate 7 0)) (blank (size N n) t) (start N n t) (start-inv N n t h1 h2 h3 .shape) refl refl refl refl refl
+
+-- what is to be done for aj(b), by the tables alone
+pub partner-stand : (N n : ℕ) (s : Stand) (t : List ℕ) (j b : ℕ) (p : Case) → toldPartner p ≡ partnerFor N n t j b
+    → partner (walkAt N n s t) j b ≡ toldPartner p
+unfolding walkAt
+partner-stand N n s t j b p e = partner-looking (walkAt N n s t) j b ∙ sym e
+
+-- a walk within the limits, and its lowest queue that isn't empty: its head is served
+module _ (N n k : ℕ) (ps t : List ℕ) (dims : 1 ≤ N) (v : Inv (walkAt N n (stand k ps) t)) where
+  pub stand-limits : Limits N n t
+  unfolding walkAt
+  stand-limits =
+      let h = v .shape in
+      record { dims = (dims, h .ranks); darts = (omega (arith, h .some, h .within), h .small); room = h .table }
+
+  pub stand-seven : length ps ≡ 7
+  unfolding walkAt
+  stand-seven = v .shape .seven
+
+  pub serves : (j : ℕ) → Lowest N k ps j → (p : Partner) → partner (walkAt N n (stand k ps) t) j (getD ps j 0) ≡ p
+      → Served N n k ps t j (getD ps j 0) p
+  unfolding walkAt
+  serves j low p e = record {
+    inv = v;
+    heads = head-lowest (walkAt N n (stand k ps) t) (v .shape) j (low .lower) (low .ranked) (low .some);
+    case = e;
+    limits = stand-limits;
+    seven = v .shape .seven;
+    emptied = low .lower;
+    ranked = low .ranked;
+    first = refl;
+    below = low .some;
+    within = v .shape .within;
+  }
+
+-- a move's walk is that of the stand and tables after it
+lands : (N n : ℕ) (s s' : Stand) (t t' : List ℕ) (out : List Symbol) (w' : Walk) → Inv (walkAt N n s t) → Move (walkAt N n s t) out w'
+    → w' .count ≡ s' .count → w' .positions ≡ s' .positions → w' .links ≡ t' → walkAt N n s' t' ≡ w'
+unfolding walkAt
+lands N n s s' t t' out w' v m ec ep et =
+    let x = moved (walkAt N n s t) w' out v m in
+    stands N n s' t' w' (x .inv .shape) (x .grows .dim) (x .grows .darts) ec ep et
+
+-- the rules' step where aj(b) is known
+abbrev pub knownStep : ℕ → ℕ → Walk → List Bool → Step
+knownStep j b w rest = Step.goes (pass w j b) rest
+
+-- the walk after b has left Lj: with aj(b) as it was, with aj(b) = e made known, and with a new dart
+module _ {N n k : ℕ} {ps t : List ℕ} {j b : ℕ} {p : Partner} (v : Served N n k ps t j b p) where
+  -- the walk before
+  abbrev here : Walk
+  here = walkAt N n (stand k ps) t
+
+  left : set ps j (suc (getD ps j 0)) ≡ set ps j (b + 1)
+  left = rw (v .first, add-one)
+
+  walk-passed : Move here [] (pass here j b) → (ps' : List ℕ) → ps' ≡ set ps j (b + 1) → walkAt N n (stand k ps') t ≡ pass here j b
+  unfolding pass walkAt
+  walk-passed m ps' e = lands N n (stand k ps) (stand k ps') t t [] (pass here j b) (v .inv) m refl (left ∙ sym e) refl
+
+  walk-tied : (out : List Symbol) (e : ℕ) → Move here out (tie here j b e) → (ps' t' : List ℕ) → Tied N n ps t j b e ps' t'
+      → walkAt N n (stand k ps') t' ≡ tie here j b e
+  unfolding tie pass join walkAt
+  walk-tied out e m ps' t' x =
+      lands N n (stand k ps) (stand k ps') t t' out (tie here j b e) (v .inv) m refl (left ∙ sym (x .positions)) (sym (x .tables))
+
+  walk-new : (out : List Symbol) → Move here out (apply here j b Symbol.new) → (ps' t' : List ℕ) → Tied N n ps t j b k ps' t'
+      → walkAt N n (stand (k + 1) ps') t' ≡ apply here j b Symbol.new
+  unfolding apply tie pass join fresh walkAt
+  walk-new out m ps' t' x =
+      lands N n (stand k ps) (stand (k + 1) ps') t t' out (apply here j b Symbol.new) (v .inv) m (omega arith) (left ∙ sym (x .positions)) (sym (x .tables))
+
+  -- the queues below Lj are still empty
+  still-empty : (ps' : List ℕ) → ps' ≡ set ps j (b + 1) → Emptied k ps' j
+  still-empty ps' e = rw e (emptied-passed _ _ _ _ (v .emptied))
+
+  -- what a step leaves that goes on, and one that is refused
+  goes : (f : Walk → List Bool → Step) (w' : Walk) → ((rest : List Bool) → f here rest ≡ Step.goes w' rest)
+      → (rank k' : ℕ) (ps' t' : List ℕ) → walkAt N n (stand k' ps') t' ≡ w' → Emptied k' ps' rank → Steps N n k ps t f (On rank k') ps' t'
+  unfolding toldStep Lower
+  goes f w' g rank k' ps' t' e l = record { tells = λ rest. rw e (sym (g rest)); lower = l }
+
+  pub known-step : p ≡ Partner.known → (ps' : List ℕ) → ps' ≡ set ps j (b + 1) → Steps N n k ps t (knownStep j b) (On j k) ps' t
+  known-step q ps' e =
+      goes (knownStep j b) (pass here j b) (λ rest. refl) j k ps' t
+      (walk-passed (Move.passes j b (v .heads) (v .case ∙ q)) ps' e) (still-empty ps' e)
+
+-- the step by a deduction, one way through the code at a time
+module _ {N n k : ℕ} {ps t : List ℕ} {j b e : ℕ} (v : Served N n k ps t j b (Partner.deduced e)) where
+  -- a deduced partner has a number
+  pub deduced-small : e < n
+  unfolding walkAt
+  deduced-small =
+      let d = see-deduced (here v) j b e (v .case) in
+      let l = deduced-below (here v) (v .inv) (d .i) j b (next-of (here v) (v .inv) (v .heads)) (d .gap) (d .known) in
+      omega (arith, d .value, l, v .inv .shape .within)
+
+  module _ (x : ℕ) (ex : x ≡ link N n t j e) where
+    pub deduced-tied : x ≡ mark → (ps' t' : List ℕ) → Tied N n ps t j b e ps' t' → Steps N n k ps t (deducedStep j b e) (On j k) ps' t'
+    unfolding allow
+    deduced-tied q ps' t' z =
+        let u : unknown (here v) j e ≡ true = unfold unknown linkOf walkAt in eq-eqb (link N n t j e) mark (sym ex ∙ q) in
+        goes v (deducedStep j b e) (tie (here v) j b e) (λ rest. rw u) j k ps' t'
+        (walk-tied v [] e (Move.deduces j b e (v .heads) (v .case) u) ps' t' z) (still-empty v ps' (z .positions))
+
+    pub deduced-14 : x ≢ mark → Steps N n k ps t (deducedStep j b e) (Refused 14) ps t
+    unfolding toldStep Lower allow
+    deduced-14 q =
+        let u : unknown (here v) j e ≡ false = unfold unknown linkOf walkAt in ne-eqb (link N n t j e) mark (λ z. q (ex ∙ z)) in
+        record { tells = λ rest. rw u; lower = tt }
+
+-- the step by a symbol, one way through the code at a time
+module _ {N n k : ℕ} {ps t : List ℕ} {j b : ℕ} (v : Served N n k ps t j b Partner.asked) where
+  on : (x : Symbol) → permitted (here v) j b x ≡ true → (rank k' : ℕ) (ps' t' : List ℕ) → walkAt N n (stand k' ps') t' ≡ apply (here v) j b x
+      → Emptied k' ps' rank
+      → Steps N n k ps t (symbolStep j b x) (On rank k') ps' t'
+  unfolding allow
+  on x h rank k' ps' t' e l = goes v (symbolStep j b x) (apply (here v) j b x) (λ rest. rw h) rank k' ps' t' e l
+
+  off : (x : Symbol) → permitted (here v) j b x ≡ false → Steps N n k ps t (symbolStep j b x) (Refused (fault x)) ps t
+  unfolding toldStep Lower allow
+  off x h = record { tells = λ rest. rw h; lower = tt }
+
+  pub symbol-border : (ps' t' : List ℕ) → Tied N n ps t j b b ps' t' → Steps N n k ps t (symbolStep j b Symbol.border) (On j k) ps' t'
+  unfolding permitted apply
+  symbol-border ps' t' x =
+      on Symbol.border refl j k ps' t'
+      (walk-tied v (Symbol.border ∷ []) b (Move.reads j b Symbol.border (v .heads) (v .case) refl) ps' t' x) (still-empty v ps' (x .positions))
+
+  module _ (e : ℕ) (y : Bool) (ey : y ≡ mayName N n t k j b e) where
+    named : permitted (here v) j b (Symbol.index e) ≡ y
+    unfolding permitted unknown linkOf walkAt
+    named = sym ey
+
+    -- a dart that may be named is numbered
+    pub name-below : y ≡ true → e < k
+    name-below q =
+        let a = ltb e k && not (eqb e b) in
+        ltb-true e k (and-left (ltb e k) (not (eqb e b)) (and-left a (eqb (link N n t j e) mark) (sym ey ∙ q)))
+
+    pub symbol-index : y ≡ true → (ps' t' : List ℕ) → Tied N n ps t j b e ps' t' → Steps N n k ps t (symbolStep j b (Symbol.index e)) (On j k) ps' t'
+    unfolding apply
+    symbol-index q ps' t' x =
+        on (Symbol.index e) (named ∙ q) j k ps' t'
+        (walk-tied v (Symbol.index e ∷ []) e (Move.reads j b (Symbol.index e) (v .heads) (v .case) (named ∙ q)) ps' t' x)
+        (still-empty v ps' (x .positions))
+
+    pub symbol-12 : y ≡ false → Steps N n k ps t (symbolStep j b (Symbol.index e)) (Refused 12) ps t
+    unfolding fault
+    symbol-12 q = off (Symbol.index e) (named ∙ q)
+
+  module _ (y : Bool) (ey : y ≡ ltb k n) where
+    pub symbol-new : y ≡ true → (ps' t' : List ℕ) → Tied N n ps t j b k ps' t' → Steps N n k ps t (symbolStep j b Symbol.new) (On 0 (k + 1)) ps' t'
+    unfolding permitted walkAt
+    symbol-new q ps' t' x =
+        let p : permitted (here v) j b Symbol.new ≡ true = sym ey ∙ q in
+        on Symbol.new p 0 (k + 1) ps' t' (walk-new v (Symbol.new ∷ []) (Move.reads j b Symbol.new (v .heads) (v .case) p) ps' t' x) (emptied-none _ _)
+
+    pub symbol-13 : y ≡ false → Steps N n k ps t (symbolStep j b Symbol.new) (Refused 13) ps t
+    unfolding fault permitted walkAt
+    symbol-13 q = off Symbol.new (sym ey ∙ q)

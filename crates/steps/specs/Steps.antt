@@ -1,0 +1,68 @@
+-- A step as the code tells it: where it is made, the rules' step with any bits that are left, and what it leaves.
+use Prim.Native.Nat.{ℕ, _+_, _≤_, _<_}
+use mathlib.Core.Path.{_≡_}
+use mathlib.Core.Bool.{Bool, not, _&&_}
+use mathlib.Core.List.{List}
+use lib.ListN.{length, getD, set}
+use lib.Dec.{eqb, ltb}
+use Rattle.rules.specs.Map.{Limits, mark, place, link}
+use Rattle.rules.specs.Walk.{Walk, Head, head, unknown, Partner, partner, tie, Symbol, apply}
+use Rattle.rules.specs.Reading.{Run, Step, permitted, fault, allow}
+use Rattle.rules.specs.Session.{walkAt}
+use Rattle.rules.specs.Inner.{Emptied, Inv}
+use Rattle.rules.specs.declared.Stand.{Stand}
+use Rattle.steps.specs.declared.Stepped.{Stepped}
+use Rattle.steps.specs.declared.Stepped.the-variants.{On, Refused}
+
+-- the stand of a count and positions
+abbrev pub stand : ℕ → List ℕ → Stand
+stand k ps = record { count = k; positions = ps }
+
+-- aj(b) = e and its reverse, in the tables
+abbrev pub tablesJoined : ℕ → ℕ → List ℕ → ℕ → ℕ → ℕ → List ℕ
+tablesJoined N n t j b e = set (set t (place N n j b) e) (place N n j e) b
+
+-- e is numbered, is not b, and has no link at rank j
+abbrev pub mayName : ℕ → ℕ → List ℕ → ℕ → ℕ → ℕ → ℕ → Bool
+mayName N n t count j b e = ltb e count && not (eqb e b) && eqb (link N n t j e) mark
+
+-- aj(b) = e was made known, and b has left Lj
+pub record Tied (N n : ℕ) (ps t : List ℕ) (j b e : ℕ) (ps' t' : List ℕ) : Type 0 where
+  pub positions : ps' ≡ set ps j (b + 1)
+  pub tables : t' ≡ tablesJoined N n t j b e
+
+-- b is at the head of Lj, and p is to be done for it
+pub record Served (N n k : ℕ) (ps t : List ℕ) (j b : ℕ) (p : Partner) : Type 0 where
+  pub inv : Inv (walkAt N n (stand k ps) t)
+  pub heads : head (walkAt N n (stand k ps) t) ≡ Head.at j b
+  pub case : partner (walkAt N n (stand k ps) t) j b ≡ p
+  pub limits : Limits N n t
+  pub seven : length ps ≡ 7
+  pub emptied : Emptied k ps j
+  pub ranked : j ≤ N
+  pub first : getD ps j 0 ≡ b
+  pub below : b < k
+  pub within : k ≤ n
+
+-- the rules' step by a deduced partner e, with the bits that are left
+abbrev pub deducedStep : ℕ → ℕ → ℕ → Walk → List Bool → Step
+deducedStep j b e w rest = allow (unknown w j e) 14 w (tie w j b e) rest
+
+-- the rules' step by a symbol x
+abbrev pub symbolStep : ℕ → ℕ → Symbol → Walk → List Bool → Step
+symbolStep j b x w rest = allow (permitted w j b x) (fault x) w (apply w j b x) rest
+
+-- what a step came to with k darts numbered, as the rules tell it, by the positions and tables after it
+unfoldable pub toldStep : ℕ → ℕ → ℕ → Stepped → List ℕ → List ℕ → List Bool → Step
+toldStep N n k (On rank k') ps t rest = Step.goes (walkAt N n (stand k' ps) t) rest
+toldStep N n k (Refused nr) ps t rest = Step.stops (Run.refused nr (walkAt N n (stand k ps) t))
+
+-- the queues below the rank where a step goes on are empty
+unfoldable pub Lower : Stepped → List ℕ → Type 0
+Lower (On rank k) ps = Emptied k ps rank
+Lower (Refused nr) ps = Unit
+
+-- the rules' step f was made, whatever bits are left
+pub record Steps (N n k : ℕ) (ps t : List ℕ) (f : Walk → List Bool → Step) (r : Stepped) (ps' t' : List ℕ) : Type 0 where
+  pub tells : (rest : List Bool) → toldStep N n k r ps' t' rest ≡ f (walkAt N n (stand k ps) t) rest
+  pub lower : Lower r ps'
