@@ -233,8 +233,10 @@ module _ (N n : ℕ) (t : List ℕ) (i : ℕ) (L : Limits N n t) (hi : i ≤ N) 
     unfolding entryOf knownAt allBelow
     knowns =
         let z : x + 0 ≡ x = omega arith in
-        let known = λ (d : ℕ) (h : 0 ≤ d) (l : d < p). entry-known c p d (link N n t i d) hp (omega arith) l ∙ ap (λ (y : ℕ). ltb y c) (entry-here d (omega arith)) in
-        rw (z, and-yes) at (part fits (knownAt t c) 0 p x (omega arith) known)
+        rw (z, and-yes) at (
+        part fits (knownAt t c) 0 p x (omega arith)
+        (λ d h l. entry-known c p d (link N n t i d) hp (omega arith) l ∙ ap (λ (y : ℕ). ltb y c) (entry-here d (omega arith)))
+        )
 
     opens : allBelow c fits ≡ (allWithin (x + p) (x + c) (openAt t c) && allBelow p fits)
     unfolding entryOf openAt

@@ -13,8 +13,8 @@ ghost use Rattle.steps.specs.Steps.{stand, Served};
 ghost use Rattle.runs.specs.Turns.{afterStep, Ready, Turns};
 ghost use Rattle.runs.specs.Runs.{ranAt, Runs};
 
-// What a turn comes to: it goes on, with a rank below which all queues are empty, the count and the cursor, or it waits
-// for bits, or it is refused by a number.
+// What a turn comes to: it goes on, with a rank below which all queues are empty, the count and the cursor, or it
+// waits for bits, or it is refused by a number.
 pub enum Turned {
     On(usize, u16, Cursor),
     Waits,

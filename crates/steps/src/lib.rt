@@ -20,8 +20,8 @@ pub enum Case {
     Asked,
 }
 
-// What a step comes to, beside the tables and positions, which are lent: it goes on, with a rank below which all queues
-// are empty and the count, or it is refused by a number.
+// What a step comes to, beside the tables and positions, which are lent: it goes on, with a rank below which all
+// queues are empty and the count, or it is refused by a number.
 pub enum Stepped {
     On(usize, u16),
     Refused(u32),
