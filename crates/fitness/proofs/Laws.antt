@@ -28,6 +28,8 @@ use Rattle.rules.proofs.Lists.{and-left, and-right, or-left, or-right, not-both
 use Rattle.rules.proofs.Places.{place-below, place-row, rank-nth, dart-nth}
 use Rattle.rules.proofs.Codes.{length-bits}
 use Rattle.tables.proofs.Laws.{entry-link}
+use Rattle.rules.specs.Inner.{Shape}
+use Rattle.rules.proofs.Fitness.{fits-inv}
 use Rattle.fitness.specs.Parts.{fallsAt, isAt, overAt, entryBy, entryOf, entryAt, allWithin, knownAt, openAt, blankAt, asksAt}
 
 -- tests whose other side is known
@@ -506,13 +508,15 @@ module _ (s : Session) (t : List ℕ) where
       pub limits-of : Limits (s .dim) (s .darts) t
       limits-of = fits-limits (sym e ∙ not-false w hw)
 
+      pub shape-of : length (s .positions) ≡ 7 → (x : Stand) → x ≡ standOf s → Shape (walkAt (s .dim) (s .darts) x t)
+      shape-of seven x ex = rw ex (fits-inv s t seven (sym e ∙ not-false w hw) .0 .shape)
+
       pub complete-fit : (r : Bool) → r ≡ allDone s → r ≡ fitAs Complete s t
       unfolding fitAs
       complete-fit r q = rw (← e, not-false w hw) q
 
-      module _ (x : Stand) (ex : x ≡ standOf s) (a : Bool) (ea : a ≡ asksAt (s .dim) (s .darts) t (x .count) (x .positions)) where
+      module _ (x : Stand) (ex : x ≡ standOf s) (a : Bool) (ea : a ≡ asksAt (walkAt (s .dim) (s .darts) x t)) where
         asking : asks (walkOf s t) (head (walkOf s t)) ≡ a
-        unfolding walkAt asksAt
         asking = sym (rw ex at ea)
 
         pub running-still : not a ≡ true → false ≡ fitAs Running s t

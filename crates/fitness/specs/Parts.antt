@@ -1,13 +1,14 @@
 -- The tests of fitness one by one, over the numbers that each looks at. The rules' definitions are these at a session's fields.
-use Prim.Native.Nat.{ℕ, zero, suc, _+_, _-_, _/_, _%_}
+use Prim.Native.Nat.{ℕ, _+_, _-_, _/_, _%_, _≤_, _<_}
 use mathlib.Core.List.{List, _∷_}
-use mathlib.Core.Bool.{Bool, true, false, not, _&&_, _||_, cond}
+use mathlib.Core.Bool.{Bool, not, _&&_, _||_, cond}
 use lib.ListN.{getD}
 use lib.Dec.{eqb, ltb, leb}
 use Rattle.rules.specs.Lists.{allBelow}
 use Rattle.rules.specs.Map.{mark, link}
-use Rattle.rules.specs.Walk.{head}
-use Rattle.rules.specs.Session.{walkAt, asks}
+use Rattle.rules.specs.Walk.{Walk, head}
+use Rattle.rules.specs.Session.{asks}
+use Rattle.rules.specs.Inner.{Emptied}
 
 -- position i is not above the one before it, or count
 unfoldable pub fallsAt : ℕ → List ℕ → ℕ → Bool
@@ -49,12 +50,11 @@ openAt t c k = ltb (getD t k 0) c || eqb (getD t k 0) mark
 unfoldable pub blankAt : List ℕ → ℕ → Bool
 blankAt t k = eqb (getD t k 0) mark
 
--- the rank of the lowest queue that isn't empty, of k ranks from j on, or the rank past them
-unfoldable pub lowestFrom : ℕ → ℕ → ℕ → List ℕ → ℕ
-lowestFrom zero j c positions = j
-lowestFrom (suc k) j c positions =
-    elim (ltb (getD positions j 0) c) [ true ↦ j | false ↦ lowestFrom k (suc j) (getD positions j 0) positions ]
+-- the lowest queue that isn't empty is Lr, or all are empty
+pub record Found (N count : ℕ) (positions : List ℕ) (r : ℕ) : Type 0 where
+  pub lower : Emptied count positions r
+  pub some : r ≤ N → getD positions r 0 < count
 
--- a queue of the walk that count and positions stand for isn't empty, and its next step needs a symbol
-unfoldable pub asksAt : ℕ → ℕ → List ℕ → ℕ → List ℕ → Bool
-asksAt N n t c positions = let w = walkAt N n (record { count = c; positions = positions }) t in asks w (head w)
+-- a queue of a walk isn't empty, and its next step needs a symbol
+abbrev pub asksAt : Walk → Bool
+asksAt w = asks w (head w)

@@ -13,10 +13,11 @@ ghost use Rattle.rules.specs.Lists.{allBelow};
 ghost use Rattle.rules.specs.Map.{Limits, size};
 ghost use Rattle.rules.specs.Stream.{bitsOf};
 ghost use Rattle.rules.specs.Refusals.{fitRefused};
-ghost use Rattle.rules.specs.Session.{valueFits, onlyBits, walkFits, allDone, fitAs};
+ghost use Rattle.rules.specs.Session.{walkAt, valueFits, onlyBits, walkFits, allDone, fitAs};
+ghost use Rattle.rules.specs.Inner.{Shape};
 ghost use Rattle.rules.specs.declared.State.the-variants.{Running, Complete};
 ghost use Rattle.fitness.specs.Parts.{fallsAt, isAt, overAt, allWithin, knownAt, openAt, blankAt, entryOf};
-ghost use Rattle.fitness.specs.Parts.{entryAt, lowestFrom, asksAt};
+ghost use Rattle.fitness.specs.Parts.{entryAt, Found, asksAt};
 
 // The first positions are all x.
 pub fn positions_are(k: usize, x: u16, positions: [u16; 7]) -> bool
@@ -217,18 +218,17 @@ pub fn walk_fits(s: Session, tables: &[u16]) -> bool
     entries_fit(tables, dim, darts, count, positions)
 }
 
-// The rank of the lowest queue that isn't empty, or N+1.
+// The rank of the lowest queue that isn't empty, or N+1. The queues below it are empty, so it holds the numbers from its
+// position up to the count.
 pub fn lowest(dim: usize, count: u16, positions: [u16; 7]) -> usize
     requires { ⌜ dim ≤ 6 ⌝ }
-    ensures { λ r. ⌜ r ≡ lowestFrom (dim + 1) 0 count positions ⌝ }
+    ensures { λ r. ⌜ Found dim count positions r ⌝ }
 {
-    let mut entered = count;
     let mut j = 0;
     while j <= dim {
-        if positions[j] < entered {
+        if positions[j] < count {
             return j;
         }
-        entered = positions[j];
         j += 1;
     }
     j
@@ -236,8 +236,8 @@ pub fn lowest(dim: usize, count: u16, positions: [u16; 7]) -> usize
 
 // A queue isn't empty, and the next step needs a symbol.
 pub fn asks(dim: usize, darts: usize, stand: Stand, tables: &[u16]) -> bool
-    requires { ⌜ Limits dim darts (now tables) ⌝ }
-    ensures { λ r. ⌜ r ≡ asksAt dim darts (now (tables .entry)) (stand .count) (stand .positions) ⌝ }
+    requires { ⌜ Limits dim darts (now tables) × Shape (walkAt dim darts stand (now tables)) ⌝ }
+    ensures { λ r. ⌜ r ≡ asksAt (walkAt dim darts stand (now (tables .entry))) ⌝ }
 {
     let count = stand.count;
     let positions = stand.positions;

@@ -1,13 +1,8 @@
 -- `fitness::asks` meets its contract: the lowest queue, and the case of its head. Assumes nothing.
-use mathlib.Core.Path.{_≡_, sym, _∙_}
-use lib.ListN.{length, length-map}
 use borrow.Author.Needs.{needs}
 use Rattle.fitness.proofs.Heads.{asks-none, asks-known, asks-deduced, asks-asked}
 use Rattle.fitness.proofs.asks.Statement.{statement}
 use Rattle.fitness.proofs.asks.Tie as tie
-
-seven : (c : tie.Start) → length (c .args .stand .positions) ≡ 7
-seven c = sym (length-map (c .args .stand .positions) (λ v. v)) ∙ c .good .1 .1 .0 .1 .1 .1 .0 .1 .0 .1
 
 -- where the lowest queue was found, from its head's case
 abbrev found : tie.After-partner → tie.After-lowest
@@ -19,7 +14,7 @@ lowest-requires c κs = search needs
 returns : tie.Need-returns
 returns c =
     let s = c .before .before .before .before in
-    asks-none _ _ _ _ _ (seven s) (s .pre .dims .1) _ (c .before .lowest .ensures) (c .if1 .taken)
+    asks-none _ _ _ _ (s .pre .1) _ (c .before .lowest .ensures) (c .if1 .taken)
 
 mul-t11 : tie.Need-mul-t11
 mul-t11 c = search needs
@@ -44,21 +39,21 @@ returns-2 c =
     let k = c .before .before in
     let l = found k in
     let s = l .before .before .before in
-    asks-known _ _ _ _ _ (seven s) (s .pre .dims .1) _ (l .lowest .ensures) (k .before .if1 .left) _ (k .partner .ensures) (c .enum-told .given .1)
+    asks-known _ _ _ _ (s .pre .1) _ (l .lowest .ensures) (k .before .if1 .left) _ (k .partner .ensures) (c .enum-told .given .1)
 
 returns-3 : tie.Need-returns-3
 returns-3 c =
     let k = c .before .before in
     let l = found k in
     let s = l .before .before .before in
-    asks-deduced _ _ _ _ _ (seven s) (s .pre .dims .1) _ (l .lowest .ensures) (k .before .if1 .left) _ (k .partner .ensures) _ (c .enum-told2 .given .1)
+    asks-deduced _ _ _ _ (s .pre .1) _ (l .lowest .ensures) (k .before .if1 .left) _ (k .partner .ensures) _ (c .enum-told2 .given .1)
 
 returns-4 : tie.Need-returns-4
 returns-4 c =
     let k = c .before .before in
     let l = found k in
     let s = l .before .before .before in
-    asks-asked _ _ _ _ _ (seven s) (s .pre .dims .1) _ (l .lowest .ensures) (k .before .if1 .left) _ (k .partner .ensures) (c .enum-told3 .given .1)
+    asks-asked _ _ _ _ (s .pre .1) _ (l .lowest .ensures) (k .before .if1 .left) _ (k .partner .ensures) (c .enum-told3 .given .1)
 
 pub asks-spec : {M : Type 1} → statement M
 asks-spec =

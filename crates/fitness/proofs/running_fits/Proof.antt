@@ -1,8 +1,13 @@
 -- `fitness::running_fits` meets its contract: the walk fits, its next step needs a symbol, and the bits begin one. Assumes nothing.
+use mathlib.Core.Path.{_≡_, sym, _∙_}
+use lib.ListN.{length, length-map}
 use borrow.Author.Needs.{needs}
-use Rattle.fitness.proofs.Laws.{running-unfit, running-still, running-begun, limits-of}
+use Rattle.fitness.proofs.Laws.{running-unfit, running-still, running-begun, limits-of, shape-of}
 use Rattle.fitness.proofs.running_fits.Statement.{statement}
 use Rattle.fitness.proofs.running_fits.Tie as tie
+
+seven : (c : tie.Start) → length (c .args .s .positions) ≡ 7
+seven c = sym (length-map (c .args .s .positions) (λ v. v)) ∙ c .good .0 .1 .1 .1 .1 .1 .1 .0 .1 .0 .1
 
 -- the walk fits, from where its stand is asked
 abbrev fits : tie.After-stand-of → tie.Else1
@@ -24,7 +29,10 @@ stand-of-requires : tie.Need-stand-of-requires
 stand-of-requires c κs = search needs
 
 asks-requires : tie.Need-asks-requires
-asks-requires c κs = let k = fits c in limits-of _ _ _ (k .before .walk-fits .ensures) (k .if1 .left)
+asks-requires c κs =
+    let k = fits c in
+    let w = k .before .walk-fits .ensures in
+    (limits-of _ _ _ w (k .if1 .left), shape-of _ _ _ w (k .if1 .left) (seven (k .before .before .before)) _ (c .stand-of .ensures))
 
 returns-2 : tie.Need-returns-2
 returns-2 c =
