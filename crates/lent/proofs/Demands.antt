@@ -1,4 +1,5 @@
--- Demand 3 over a lent record: what calls leave that meet the contracts of `lent::page` and `lent::close`. Each is such a call by value, so the reader's Demands say it.
+-- Demand 3 over a lent record: what calls leave that meet the contracts of `lent::page` and `lent::close`. Each is such a call by value, so the reader's
+-- Demands say it.
 use Prim.Native.Nat.{ℕ}
 use mathlib.Core.Path.{_≡_}
 use mathlib.Core.List.{List, [], _∷_}
@@ -15,7 +16,8 @@ use Rattle.lent.specs.Lent.{lentBy}
 -- pages given in order to one lent record, with the tables as each call has left them, each call meeting the contract of `page`
 pub data Lent : List (List ℕ) → Left → Left → Type 0 where
   none : {x : Left} → Lent [] x x
-  more : {p : List ℕ} {ps : List (List ℕ)} {x z : Left} (s : Session) (a : ReadAnswer) (u : List ℕ) → lentBy s a u ≡ page (x .session) p (x .tables) → Lent ps (lentBy s a u) z → Lent (p ∷ ps) x z
+  more : {p : List ℕ} {ps : List (List ℕ)} {x z : Left} (s : Session) (a : ReadAnswer) (u : List ℕ) → lentBy s a u ≡ page (x .session) p (x .tables)
+      → Lent ps (lentBy s a u) z → Lent (p ∷ ps) x z
 
 -- they are pages by value
 fed : {ps : List (List ℕ)} {x z : Left} → Lent ps x z → Fed ps x z
@@ -29,7 +31,8 @@ pub lent-record : (ps : List (List ℕ)) (t : List ℕ) (z : Left) → Lent ps (
 lent-record ps t z f = fed-record ps t z (fed f)
 
 -- pages from open, then one call that meets the contract of `close`: answer and tables of one call that meets the contract of `read`
-pub lent-read : (ps : List (List ℕ)) (t : List ℕ) (z : Left) → Lent ps (opening t) z → (s : Session) (c : ReadAnswer) (v : List ℕ) → lentBy s c v ≡ close (z .session) (z .tables)
+pub lent-read : (ps : List (List ℕ)) (t : List ℕ) (z : Left) → Lent ps (opening t) z → (s : Session) (c : ReadAnswer) (v : List ℕ)
+    → lentBy s c v ≡ close (z .session) (z .tables)
     → (a : ReadAnswer) (u : List ℕ) → (a ≡ readAnswer (whole ps) t) × (u ≡ readTables (whole ps) t) → (c ≡ a) × (v ≡ u)
 unfolding leftBy
 lent-read ps t z f s c v e a u h = fed-read ps t z (fed f) (record { session = s; answer = c }) v e a u h
