@@ -36,7 +36,7 @@ use Rattle.steps.proofs.Steps.{walk-start}
 use Rattle.runs.specs.Turns.{Ready}
 use Rattle.runs.proofs.Turns.{ready-start}
 use Rattle.records.specs.Lefts.{leftBy, idleBy, heldBy, goodBy}
-use Rattle.records.proofs.Lefts.{settle-same}
+use Rattle.records.proofs.Lefts.{complete-left, settle-same}
 use Rattle.reader.specs.Calls.{headed, cursorOf}
 
 -- a header's two bytes: 4 bits N, 12 bits n-1
@@ -317,15 +317,6 @@ module _ (r : Paged) (s : Session) (k : Stand) (ek : k ≡ standOf s) (t : List 
   unfolding goOn atHand waitingOf
   running-goes page u e = rw walk-of at e
 
-  complete-left : r .session ≡ heldBy Complete (s .dim) (s .darts) k 0 0 → r .answer ≡ goodBy (s .dim) (s .darts) k
-      → leftBy r t ≡ leaves (Reading.complete (walkOf s t)) t
-  unfolding leftBy leaves store held answerOf goodAnswer tablesOf steps walkAt value
-  complete-left e f = λ i. record {
-    session = (e ∙ ap (λ (x : Stand). heldBy Complete (s .dim) (s .darts) x 0 0) ek) i;
-    answer = (f ∙ ap (goodBy (s .dim) (s .darts)) ek) i;
-    tables = t;
-  }
-
   pub closed-left : r .session ≡ heldBy Closed (s .dim) (s .darts) k 0 0 → r .answer ≡ goodBy (s .dim) (s .darts) k
       → leftBy r t ≡ leaves (closing (Reading.complete (walkOf s t)) t) t
   unfolding leftBy leaves closing store held answerOf goodAnswer tablesOf steps walkAt value
@@ -338,7 +329,7 @@ module _ (r : Paged) (s : Session) (k : Stand) (ek : k ≡ standOf s) (t : List 
   pub complete-none : (page : List ℕ) → length page ≡ 0 → r .session ≡ heldBy Complete (s .dim) (s .darts) k 0 0 → r .answer ≡ goodBy (s .dim) (s .darts) k
       → leftBy r t ≡ leaves (afterEnd (walkOf s t) (unpack page)) t
   unfolding unpack afterEnd
-  complete-none [] l e f = complete-left e f
+  complete-none [] l e f = rw walk-of at (complete-left (s .dim) (s .darts) k t r f e)
   complete-none (x ∷ page) l e f = absurd (omega arith)
 
   pub complete-more : (page u : List ℕ) → length page ≢ 0 → leftBy r u ≡ leaves (spoiled 18 (walkAt (s .dim) (s .darts) k t)) t

@@ -7,7 +7,7 @@ use native.Mathlib.Omega.{arith}
 use borrow.Author.Tests.{eq-eqb, ne-eqb}
 use Rattle.rules.specs.Map.{mark, link}
 use Rattle.rules.specs.Walk.{Walk, linkOf, unknown, Partner, deduce, partner}
-use Rattle.steps.specs.Partners.{looking}
+use Rattle.steps.specs.Partners.{looking, deducedFor, partnerFor}
 
 -- the tables alone say what is to be done
 deduce-looking : (w : Walk) (j b k i : ℕ) → deduce w j b k i ≡ deduce (looking (w .dim) (w .darts) (w .links)) j b k i
@@ -19,27 +19,27 @@ pub partner-looking : (w : Walk) (j b : ℕ) → partner w j b ≡ partner (look
 unfolding partner unknown linkOf
 partner-looking w j b = rw (deduce-looking w j b (j - 1) 0)
 
-module _ (N n : ℕ) (t : List ℕ) (j b : ℕ) where
-  -- what is left of the search from rank i on
-  pub record Deducing (i : ℕ) : Type 0 where
-    pub upTo : i ≤ j
-    pub left : deduce (looking N n t) j b (j - 1) 0 ≡ deduce (looking N n t) j b (j - 1 - i) i
+-- what is left of the search from rank i on
+pub record Deducing (N n : ℕ) (t : List ℕ) (j b i : ℕ) : Type 0 where
+  pub upTo : i ≤ j
+  pub left : deducedFor N n t j b ≡ deduce (looking N n t) j b (j - 1 - i) i
 
-  pub deducing-start : Deducing 0
-  deducing-start = let e : j - 1 - 0 ≡ j - 1 = omega arith in record { upTo = omega arith; left = rw e }
+pub deducing-start : (N n : ℕ) (t : List ℕ) (j b : ℕ) → Deducing N n t j b 0
+deducing-start N n t j b = let e : j - 1 - 0 ≡ j - 1 = omega arith in record { upTo = omega arith; left = rw e }
 
-  pub deducing-end : (i : ℕ) → Deducing i → j ≤ i + 1 → Partner.asked ≡ deduce (looking N n t) j b (j - 1) 0
+module _ {N n : ℕ} {t : List ℕ} {j b i : ℕ} (d : Deducing N n t j b i) where
+  pub deducing-end : j ≤ i + 1 → Partner.asked ≡ deducedFor N n t j b
   unfolding deduce
-  deducing-end i d h = let e : j - 1 - i ≡ 0 = omega arith in rw (d .left, e)
+  deducing-end h = let e : j - 1 - i ≡ 0 = omega arith in rw (d .left, e)
 
-  module _ (i : ℕ) (d : Deducing i) (h : i + 1 < j) (c : ℕ) (ec : c ≡ link N n t i b) (f : ℕ) (ef : f ≡ link N n t j c) where
-    pub deducing-here : f ≢ mark → (e : ℕ) → e ≡ link N n t i f → Partner.deduced e ≡ deduce (looking N n t) j b (j - 1) 0
+  module _ (h : i + 1 < j) {c : ℕ} (ec : c ≡ link N n t i b) {f : ℕ} (ef : f ≡ link N n t j c) where
+    pub deducing-here : f ≢ mark → {e : ℕ} → e ≡ link N n t i f → Partner.deduced e ≡ deducedFor N n t j b
     unfolding deduce unknown linkOf
-    deducing-here q e ee =
+    deducing-here q ee =
         let k : j - 1 - i ≡ suc (j - 1 - suc i) = omega arith in
         rw (d .left, k, ← ec, ← ef, ne-eqb f mark q, ee)
 
-    pub deducing-next : f ≡ mark → Deducing (i + 1)
+    pub deducing-next : f ≡ mark → Deducing N n t j b (i + 1)
     unfolding deduce unknown linkOf
     deducing-next q =
         let k : j - 1 - i ≡ suc (j - 1 - suc i) = omega arith in
@@ -49,10 +49,10 @@ module _ (N n : ℕ) (t : List ℕ) (j b : ℕ) where
 
 -- the answer, one way through the code at a time
 module _ (N n : ℕ) (t : List ℕ) (j b x : ℕ) (ex : x ≡ link N n t j b) where
-  pub partner-known : x ≢ mark → Partner.known ≡ partner (looking N n t) j b
+  pub partner-known : x ≢ mark → Partner.known ≡ partnerFor N n t j b
   unfolding partner unknown linkOf
   partner-known q = rw (← ex, ne-eqb x mark q)
 
-  pub partner-other : x ≡ mark → (p : Partner) → p ≡ deduce (looking N n t) j b (j - 1) 0 → p ≡ partner (looking N n t) j b
+  pub partner-other : x ≡ mark → (p : Partner) → p ≡ deducedFor N n t j b → p ≡ partnerFor N n t j b
   unfolding partner unknown linkOf
   partner-other q p e = rw (← ex, eq-eqb x mark q) e

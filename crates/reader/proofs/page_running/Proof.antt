@@ -4,6 +4,10 @@ use Rattle.reader.proofs.Laws.{running-goes, running-may}
 use Rattle.reader.proofs.page_running.Statement.{statement}
 use Rattle.reader.proofs.page_running.Tie as tie
 
+-- the call's start
+abbrev start : tie.After-stand-of → tie.Start
+start c = c .before .before .before
+
 stand-of-requires : tie.Need-stand-of-requires
 stand-of-requires c κs = search needs
 
@@ -15,8 +19,9 @@ cast-go-on-2 c = search needs
 
 go-on-requires : tie.Need-go-on-requires
 go-on-requires c κs =
-    let s = c .before .before .before .before .before .before in
-    running-may (s .args .s) _ (c .before .before .before .stand-of .ensures) _ _ (s .pre) _ (search needs)
+    let k = c .before .before .before in
+    let s = start k in
+    running-may (s .args .s) _ (k .stand-of .ensures) _ _ (s .pre) _ (search needs)
 
 same-length : tie.Need-same-length
 same-length c = search needs
@@ -25,7 +30,7 @@ returns : tie.Need-returns
 returns c =
     let g = c .before .before in
     let k = g .before .before .before .before in
-    running-goes _ (k .before .before .before .args .s) _ (k .stand-of .ensures) _ _ _ (g .go-on .ensures)
+    running-goes _ (start k .args .s) _ (k .stand-of .ensures) _ _ _ (g .go-on .ensures)
 
 pub page-running-spec : {M : Type 1} → statement M
 page-running-spec =

@@ -4,6 +4,10 @@ use Rattle.records.proofs.Lefts.{running-left, settled-refused, settled
 use Rattle.records.proofs.settle.Statement.{statement}
 use Rattle.records.proofs.settle.Tie as tie
 
+-- the call's start
+abbrev start : tie.After-cursor → tie.Start
+start c = c .before .before .before .before
+
 enum-known-signal : tie.Need-enum-known-signal
 enum-known-signal c = search needs
 
@@ -16,14 +20,14 @@ enum-told c = search needs
 finish-requires : tie.Need-finish-requires
 finish-requires c κs =
     let m = c .before in
-    m .before .before .before .before .before .before .pre .ends (m .enum-told .given .1)
+    start (m .before .before) .pre .ends (m .enum-told .given .1)
 
 enum-told-2 : tie.Need-enum-told-2
 enum-told-2 c = search needs
 
 rest-requires : tie.Need-rest-requires
 rest-requires c κs =
-    let p = c .before .before .before .before .before .before .pre in
+    let p = start (c .before .before) .pre in
     (p .fits, p .short (c .enum-told2 .given .1))
 
 held-requires : tie.Need-held-requires

@@ -26,6 +26,10 @@ abbrev μ-loop : tie.MeasureT-loop
 abbrev at-turn : tie.After-turn Inv-loop μ-loop → tie.At-loop Inv-loop μ-loop
 at-turn c = c .before .before .before .before .before .before
 
+-- the turn that was made, from what it came to
+abbrev made : tie.After-slice-known5 Inv-loop μ-loop → tie.After-turn Inv-loop μ-loop
+made c = c .before .before .before .before
+
 loop-holds : tie.Need-loop-holds Inv-loop μ-loop
 loop-holds c = (going-start _ _ _ _ _ _ (c .before .before .before .pre), emptied-none _ _, search needs)
 
@@ -60,12 +64,12 @@ enum-known-next c = search needs
 
 loop-less-2 : tie.Need-loop-less-2 Inv-loop μ-loop
 loop-less-2 c =
-    let m = c .before .before .before .before .before .before .before in
+    let m = made (c .before .before .before) in
     omega (arith, going-less (at-turn m .loop .inv .0) (m .turn .ensures) (c .before .next .given .1))
 
 loop-again-2 : tie.Need-loop-again-2 Inv-loop μ-loop
 loop-again-2 c =
-    let m = c .before .before .before .before .before .before .before in
+    let m = made (c .before .before .before) in
     let (g, e) = going-more (at-turn m .loop .inv .0) (m .turn .ensures) (c .before .next .given .1) (search needs) in
     (g, e, search needs)
 
@@ -83,7 +87,7 @@ same-length-2 c = search needs
 
 returns : tie.Need-returns Inv-loop μ-loop
 returns c =
-    let m = c .before .before .before .before .before .before .before in
+    let m = made (c .before .before .before) in
     rw (c .halt .ensures) (run-waits (at-turn m .loop .inv .0) (m .turn .ensures) (c .before .enum-told .given .1))
 
 enum-known-number : tie.Need-enum-known-number Inv-loop μ-loop
@@ -100,7 +104,7 @@ same-length-4 c = search needs
 
 returns-2 : tie.Need-returns-2 Inv-loop μ-loop
 returns-2 c =
-    let m = c .before .before .before .before .before .before .before .before in
+    let m = made (c .before .before .before .before) in
     rw (c .halt2 .ensures) (run-refused (at-turn m .loop .inv .0) (m .turn .ensures) _ (c .before .before .number .given .1))
 
 halt-requires-3 : tie.Need-halt-requires-3 Inv-loop μ-loop

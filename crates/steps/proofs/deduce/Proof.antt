@@ -12,6 +12,10 @@ Inv-loop tables dim darts j b i₀ i = Deducing dim darts tables j (b .0) i
 abbrev μ-loop : tie.MeasureT-loop
 μ-loop tables dim darts j b i₀ i = j - i
 
+-- where the loop stands when aj(ai(b)) is read
+abbrev at-rank : tie.After-known-link2 Inv-loop μ-loop → tie.At-loop Inv-loop μ-loop
+at-rank c = c .before .before .before
+
 loop-holds : tie.Need-loop-holds Inv-loop μ-loop
 loop-holds c = deducing-start _ _ _ _ _
 
@@ -29,12 +33,9 @@ known-link-requires-3 c κs = search needs
 
 returns : tie.Need-returns Inv-loop μ-loop
 returns c =
-    let a = c .before .before .before .before .before .before .before .before .args in
-    let l = c .before .before .before .before .before .before .loop in
-    let g = c .before .before .before .before .known-link in
-    let f = c .before .before .before .known-link2 in
-    deducing-here (a .dim) (a .darts) (a .tables .now) (a .j) (a .b .0) (l .i) (l .inv) (omega arith) (g .result .0) (g .ensures) (f .result .0) (f .ensures)
-    (c .before .if1 .taken) (c .known-link3 .result .0) (c .known-link3 .ensures)
+    let f = c .before .before .before in
+    let d = at-rank f .loop .inv in
+    deducing-here d (omega arith) (f .before .known-link .ensures) (f .known-link2 .ensures) (c .before .if1 .taken) (c .known-link3 .ensures)
 
 add-i : tie.Need-add-i Inv-loop μ-loop
 add-i c = omega arith
@@ -44,18 +45,11 @@ loop-less c = omega arith
 
 loop-again : tie.Need-loop-again Inv-loop μ-loop
 loop-again c =
-    let a = c .before .before .before .before .before .before .before .args in
-    let l = c .before .before .before .before .before .loop in
-    let g = c .before .before .before .known-link in
-    let f = c .before .before .known-link2 in
-    deducing-next (a .dim) (a .darts) (a .tables .now) (a .j) (a .b .0) (l .i) (l .inv) (omega arith) (g .result .0) (g .ensures) (f .result .0) (f .ensures)
-    (c .if1 .left)
+    let f = c .before .before in
+    deducing-next (at-rank f .loop .inv) (omega arith) (f .before .known-link .ensures) (f .known-link2 .ensures) (c .if1 .left)
 
 returns-2 : tie.Need-returns-2 Inv-loop μ-loop
-returns-2 c =
-    let a = c .before .before .before .args in
-    let l = c .before .loop in
-    deducing-end (a .dim) (a .darts) (a .tables .now) (a .j) (a .b .0) (l .i) (l .inv) (omega arith)
+returns-2 c = deducing-end (c .before .loop .inv) (omega arith)
 
 pub deduce-spec : {M : Type 1} → statement M
 deduce-spec =

@@ -5,6 +5,10 @@ use Rattle.symbols.proofs.Cursors.{page-out, page-one, page-zero}
 use Rattle.symbols.proofs.Cursor.next_bit.Statement.{statement}
 use Rattle.symbols.proofs.Cursor.next_bit.Tie as tie
 
+-- the call's start, where the page has a byte
+abbrev start : tie.Else2 → tie.Start
+start c = c .before .before .before .before
+
 waiting-bit-requires : tie.Need-waiting-bit-requires
 waiting-bit-requires c κs = search needs
 
@@ -34,17 +38,19 @@ moved-requires-2 c κs = search needs
 
 returns-3 : tie.Need-returns-3
 returns-3 c =
-    let s = c .before .before .before .before .before .before .before .before in
-    let x = c .before .before .shared-slice-known2 .given (s .args .self .at) in
-    let h = c .before .before .before .before .if2 .left in
-    page-one (s .args .self) _ (omega arith) _ (s .pre) h (x .fits) (c .moved .ensures _ (omega arith)) (c .before .if3 .taken)
+    let b = c .before .before in
+    let k = b .before .before in
+    let s = start k in
+    let x = b .shared-slice-known2 .given (s .args .self .at) in
+    page-one (s .args .self) _ (omega arith) _ (s .pre) (k .if2 .left) (x .fits) (c .moved .ensures _ (omega arith)) (c .before .if3 .taken)
 
 returns-4 : tie.Need-returns-4
 returns-4 c =
-    let s = c .before .before .before .before .before .before .before .before in
-    let x = c .before .before .shared-slice-known2 .given (s .args .self .at) in
-    let h = c .before .before .before .before .if2 .left in
-    page-zero (s .args .self) _ (omega arith) _ (s .pre) h (x .fits) (c .moved2 .ensures _ (omega arith)) (c .before .if3 .left)
+    let b = c .before .before in
+    let k = b .before .before in
+    let s = start k in
+    let x = b .shared-slice-known2 .given (s .args .self .at) in
+    page-zero (s .args .self) _ (omega arith) _ (s .pre) (k .if2 .left) (x .fits) (c .moved2 .ensures _ (omega arith)) (c .before .if3 .left)
 
 pub next-bit-spec : {M : Type 1} → statement M
 next-bit-spec =
