@@ -1,5 +1,5 @@
 -- Laws of a turn: the step that is made with the bits at hand is the rules' step, one way through the code at a time. Rests on the laws of a step.
-use Prim.Native.Nat.{ℕ, _+_, _≤_, _<_}
+use Prim.Native.Nat.{ℕ, _+_, _≤_}
 use mathlib.Core.Path.{_≡_, refl, ap, sym, _∙_}
 use mathlib.Core.Logic.{_≢_, _⊎_, inl, inr}
 use mathlib.Core.Bool.{Bool, true}
@@ -7,13 +7,12 @@ use mathlib.Core.List.{List}
 use native.Mathlib.Omega.{arith}
 use lib.ListN.{length, getD, set, replicate}
 use Rattle.rules.specs.Map.{size, blank, Limits}
-use Rattle.rules.specs.Walk.{Head, head, Partner, partner}
-use Rattle.rules.specs.Stream.{bitsOf, takeSymbol}
-use Rattle.rules.specs.Stream as stream
-use Rattle.rules.specs.Reading.{Step, stepTaken, stepWith, stepAt, step}
+use Rattle.rules.specs.Walk.{Head, Partner, partner}
+use Rattle.rules.specs.Stream.{bitsOf}
+use Rattle.rules.specs.Reading.{stepTaken, stepWith, stepAt, step}
 use Rattle.rules.specs.Session.{begins, walkAt}
 use Rattle.rules.specs.Symbols.{toldSymbol}
-use Rattle.rules.specs.Inner.{Emptied, Lowest, Inv, Asks}
+use Rattle.rules.specs.Inner.{Lowest, Asks}
 use Rattle.rules.specs.declared.Symbol.{Symbol}
 use Rattle.rules.proofs.Walks.{start-inv}
 use Rattle.rules.proofs.Moves.{moved, step-move}

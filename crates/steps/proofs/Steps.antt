@@ -10,7 +10,7 @@ use lib.ListN.{length, getD, set, replicate}
 use lib.Dec.{eqb, ltb}
 use borrow.Author.Tests.{ltb-true, eq-eqb, ne-eqb}
 use Rattle.rules.specs.Map.{mark, size, place, link, blank, Limits}
-use Rattle.rules.specs.Walk.{Walk, start, Head, head, linkOf, unknown, Partner, partner, pass, join, fresh, tie, Symbol, apply}
+use Rattle.rules.specs.Walk.{Walk, start, linkOf, unknown, Partner, partner, pass, join, fresh, tie, Symbol, apply}
 use Rattle.rules.specs.Reading.{Step, permitted, fault, allow}
 use Rattle.rules.specs.Session.{queuesOf, walkAt}
 use Rattle.rules.specs.Inner.{Shape, Emptied, Lowest, Inv}
@@ -21,7 +21,6 @@ use Rattle.rules.proofs.Lowest.{head-lowest, emptied-none, emptied-passed}
 use Rattle.rules.proofs.Walks.{start-inv, next-of, deduced-below}
 use Rattle.rules.proofs.Moves.{Move, moved, see-deduced}
 use Rattle.rules.proofs.Fitness.{queues-of}
-use Rattle.steps.specs.declared.Stepped.{Stepped}
 use Rattle.steps.specs.declared.Stepped.the-variants.{On, Refused}
 use Rattle.steps.specs.declared.Case.{Case}
 use Rattle.steps.specs.Partners.{partnerFor, toldPartner}

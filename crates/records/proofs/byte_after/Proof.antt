@@ -3,8 +3,6 @@ use Rattle.records.proofs.Fills.{after-out, after-whole, after-some}
 use borrow.Author.Needs.{needs}
 use Rattle.records.proofs.byte_after.Statement.{statement}
 use Rattle.records.proofs.byte_after.Tie as tie
-use Rattle.records.proofs.byte_after.Reads as reads
-use Rattle.records.proofs.byte_after.Lts as lts
 
 returns : tie.Need-returns
 returns c = after-out _ _ (c .before .pre .0) (c .before .pre .1) (c .if1 .taken)

@@ -1,11 +1,9 @@
-use mathlib.Core.Path.{refl}
 -- `records::fill_set` meets its contract: the rest of the byte where the cursor stands. Assumes nothing.
+use mathlib.Core.Path.{refl}
 use Rattle.records.proofs.Fills.{fill-out, fill-whole, fill-some, weight-some}
 use borrow.Author.Needs.{needs}
 use Rattle.records.proofs.fill_set.Statement.{statement}
 use Rattle.records.proofs.fill_set.Tie as tie
-use Rattle.records.proofs.fill_set.Reads as reads
-use Rattle.records.proofs.fill_set.Lts as lts
 
 returns : tie.Need-returns
 returns c = fill-out _ _ (c .before .pre .0) (c .before .pre .1) (c .if1 .taken)

@@ -4,9 +4,6 @@ use Rattle.records.proofs.Lefts.{answer-steps}
 use borrow.Author.Needs.{needs}
 use Rattle.records.proofs.held.Statement.{statement}
 use Rattle.records.proofs.held.Tie as tie
-use Rattle.records.proofs.held.Reads as reads
-use Rattle.records.proofs.held.Lts as lts
-use Rattle.records.proofs.steps_of.Reads as steps-of-reads
 
 steps-of-requires : tie.Need-steps-of-requires
 steps-of-requires c κs = search needs

@@ -3,11 +3,6 @@ use Rattle.records.proofs.Lefts.{spoiled-left}
 use borrow.Author.Needs.{needs}
 use Rattle.records.proofs.spoiled.Statement.{statement}
 use Rattle.records.proofs.spoiled.Tie as tie
-use Rattle.records.proofs.spoiled.Reads as reads
-use Rattle.records.proofs.spoiled.Lts as lts
-use Rattle.records.proofs.refused.Reads as refused-reads
-use Rattle.records.proofs.steps_of.Reads as steps-of-reads
-use Rattle.tables.proofs.blank.Reads as blank-reads
 
 steps-of-requires : tie.Need-steps-of-requires
 steps-of-requires c κs = search needs

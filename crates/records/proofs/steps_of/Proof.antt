@@ -9,8 +9,6 @@ use Rattle.rules.specs.Lists as list
 use Rattle.records.proofs.Fills.{sum-on, sum-over}
 use Rattle.records.proofs.steps_of.Statement.{statement}
 use Rattle.records.proofs.steps_of.Tie as tie
-use Rattle.records.proofs.steps_of.Reads as reads
-use Rattle.records.proofs.steps_of.Lts as lts
 
 abbrev Inv-loop : tie.InvT-loop
 Inv-loop positions sum₀ i₀ sum i = (i ≤ 7) × (sum ≤ 65535 * i) × (list.sum positions ≡ sum + list.sum (drop i positions))
