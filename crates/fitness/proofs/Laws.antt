@@ -50,15 +50,15 @@ or-no true = refl
 or-no false = refl
 
 -- of the numbers below k, all before i pass the test
-pub record Passed (f : ℕ → Bool) (k i : ℕ) : Type 0 where
+pub record PassedSoFar (f : ℕ → Bool) (k i : ℕ) : Type 0 where
   pub upTo : i ≤ k
   pub all : (x : ℕ) → x < i → f x ≡ true
 
-pub passed-start : (f : ℕ → Bool) (k : ℕ) → Passed f k 0
+pub passed-start : (f : ℕ → Bool) (k : ℕ) → PassedSoFar f k 0
 passed-start f k = record { upTo = omega arith; all = λ x h. absurd (omega arith) }
 
-module _ {f : ℕ → Bool} {k i : ℕ} (p : Passed f k i) where
-  pub passed-next : i < k → f i ≡ true → Passed f k (i + 1)
+module _ {f : ℕ → Bool} {k i : ℕ} (p : PassedSoFar f k i) where
+  pub passed-next : i < k → f i ≡ true → PassedSoFar f k (i + 1)
   passed-next h q = record { upTo = omega arith; all = λ x l. go x l (ℕ-discrete x i) }
     where
       go : (x : ℕ) → x < i + 1 → Dec (x ≡ i) → f x ≡ true
@@ -96,7 +96,7 @@ module _ (c above : ℕ) (ps : List ℕ) (i : ℕ) (e : above ≡ getD (c ∷ ps
 pub next-above : (c : ℕ) (ps : List ℕ) (i : ℕ) → getD ps i 0 ≡ getD (c ∷ ps) (i + 1) 0
 next-above c ps i = let e : i + 1 ≡ suc i = omega arith in rw e
 
-pub past-start : (N : ℕ) (ps : List ℕ) → N ≤ 6 → Passed (overAt N ps) 7 (N + 1)
+pub past-start : (N : ℕ) (ps : List ℕ) → N ≤ 6 → PassedSoFar (overAt N ps) 7 (N + 1)
 unfolding overAt
 past-start N ps h = record { upTo = omega arith; all = λ x l. or-left (leb x N) (eqb (getD ps x 0) 0) (le-leb x N (omega arith)) }
 
@@ -117,12 +117,12 @@ falls-below N c ps e (suc i) h =
     omega (arith, l, falls-below N c ps e i (omega arith))
 
 -- a loop over the numbers from a up to b that counts those that fail the test: it has come to k
-pub record Tallied (f : ℕ → Bool) (a b k bad : ℕ) : Type 0 where
+pub record Faulty (f : ℕ → Bool) (a b k bad : ℕ) : Type 0 where
   pub upTo : k ≤ b
   pub few : a + bad ≤ k
   pub told : eqb bad 0 ≡ allWithin a k f
 
-pub tallied-start : (f : ℕ → Bool) (a b : ℕ) → a ≤ b → Tallied f a b a 0
+pub tallied-start : (f : ℕ → Bool) (a b : ℕ) → a ≤ b → Faulty f a b a 0
 unfolding allWithin allBelow
 tallied-start f a b h = let e : a - a ≡ 0 = omega arith in record { upTo = h; few = omega arith; told = rw e }
 
@@ -133,11 +133,11 @@ within-next f a k h =
     let q : a + (k - a) ≡ k = omega arith in
     rw (e, allBelow, q)
 
-module _ {f : ℕ → Bool} {a b k bad : ℕ} (r : Tallied f a b k bad) where
-  pub tallied-pass : k < b → f k ≡ true → Tallied f a b (k + 1) bad
+module _ {f : ℕ → Bool} {a b k bad : ℕ} (r : Faulty f a b k bad) where
+  pub tallied-pass : k < b → f k ≡ true → Faulty f a b (k + 1) bad
   tallied-pass h q = record { upTo = omega arith; few = omega (arith, r .few); told = r .told ∙ sym (rw q at (within-next f a k (omega (arith, r .few)))) }
 
-  pub tallied-fail : k < b → f k ≡ false → Tallied f a b (k + 1) (bad + 1)
+  pub tallied-fail : k < b → f k ≡ false → Faulty f a b (k + 1) (bad + 1)
   tallied-fail h q = record {
     upTo = omega arith;
     few = omega (arith, r .few);

@@ -6,7 +6,7 @@ ghost use Prim.Native.Nat.{suc, _+_, _*_, _≤_};
 ghost use lib.ListN.{length, getD};
 ghost use Rattle.io.specs.Counts.{Counts};
 ghost use Rattle.rules.specs.Map.{Limits};
-ghost use Rattle.words.specs.Room.{Wrote, begun};
+ghost use Rattle.words.specs.Room.{TextPut, begun};
 ghost use Rattle.words.specs.Words.{spaced, each};
 ghost use Rattle.listing.specs.Listing.{links, dartLine, dartLines, cellsLine, mapText, refusalLine, listing};
 
@@ -20,7 +20,7 @@ pub fn put_links(
     d: u16,
 ) -> usize
     requires { ⌜ Limits dim darts (now tables) × (at + 147 ≤ length (now out)) ⌝ }
-    ensures { λ r. ⌜ Wrote (now (out .entry)) at (links dim darts (now (tables .entry)) d) (now (out .exit)) r ⌝ }
+    ensures { λ r. ⌜ TextPut (now (out .entry)) at (links dim darts (now (tables .entry)) d) (now (out .exit)) r ⌝ }
     ensures { λ r. ⌜ r ≤ at + 147 ⌝ }
 {
     let mut end = at;
@@ -42,7 +42,7 @@ pub fn put_dart(
     d: u16,
 ) -> usize
     requires { ⌜ Limits dim darts (now tables) × (at + 168 ≤ length (now out)) ⌝ }
-    ensures { λ r. ⌜ Wrote (now (out .entry)) at (dartLine dim darts (now (tables .entry)) d) (now (out .exit)) r ⌝ }
+    ensures { λ r. ⌜ TextPut (now (out .entry)) at (dartLine dim darts (now (tables .entry)) d) (now (out .exit)) r ⌝ }
     ensures { λ r. ⌜ r ≤ at + 168 ⌝ }
 {
     let number = words::put_number(out, at, d as u64);
@@ -53,7 +53,7 @@ pub fn put_dart(
 // A line for each dart.
 pub fn put_darts(out: &mut [u8], at: usize, tables: &[u16], dim: usize, darts: usize) -> usize
     requires { ⌜ Limits dim darts (now tables) × (at + 168 * darts ≤ length (now out)) ⌝ }
-    ensures { λ r. ⌜ Wrote (now (out .entry)) at (dartLines dim darts (now (tables .entry))) (now (out .exit)) r ⌝ }
+    ensures { λ r. ⌜ TextPut (now (out .entry)) at (dartLines dim darts (now (tables .entry))) (now (out .exit)) r ⌝ }
     ensures { λ r. ⌜ r ≤ at + 168 * darts ⌝ }
 {
     let mut end = at;
@@ -75,7 +75,7 @@ pub fn wide(n: u32) -> u64
 // The cells of each rank.
 pub fn put_counts(out: &mut [u8], at: usize, dim: usize, cells: [u32; 7]) -> usize
     requires { ⌜ (dim ≤ 6) × (at + 147 ≤ length (now out)) ⌝ }
-    ensures { λ r. ⌜ Wrote (now (out .entry)) at
+    ensures { λ r. ⌜ TextPut (now (out .entry)) at
         (each (suc dim) (λ i. spaced (getD cells i 0))) (now (out .exit)) r ⌝ }
     ensures { λ r. ⌜ r ≤ at + 147 ⌝ }
 {
@@ -91,7 +91,7 @@ pub fn put_counts(out: &mut [u8], at: usize, dim: usize, cells: [u32; 7]) -> usi
 // The cells' line.
 pub fn put_cells(out: &mut [u8], at: usize, dim: usize, cells: [u32; 7]) -> usize
     requires { ⌜ (dim ≤ 6) × (at + 153 ≤ length (now out)) ⌝ }
-    ensures { λ r. ⌜ Wrote (now (out .entry)) at (cellsLine dim cells) (now (out .exit)) r ⌝ }
+    ensures { λ r. ⌜ TextPut (now (out .entry)) at (cellsLine dim cells) (now (out .exit)) r ⌝ }
     ensures { λ r. ⌜ r ≤ at + 153 ⌝ }
 {
     let word = words::put(out, at, b"cells");
@@ -110,7 +110,7 @@ pub fn put_map(
     tables: &[u16],
 ) -> usize
     requires { ⌜ Limits dim darts (now tables) × (688392 ≤ length (now out)) ⌝ }
-    ensures { λ r. ⌜ Wrote (now (out .entry)) 0
+    ensures { λ r. ⌜ TextPut (now (out .entry)) 0
         (mapText dim darts steps cells free (now (tables .entry))) (now (out .exit)) r ⌝ }
     ensures { λ r. ⌜ r ≤ 688392 ⌝ }
 {
@@ -124,7 +124,7 @@ pub fn put_map(
 // A refusal's line.
 pub fn put_refusal(out: &mut [u8], number: u32, place: u32) -> usize
     requires { ⌜ 53 ≤ length (now out) ⌝ }
-    ensures { λ r. ⌜ Wrote (now (out .entry)) 0 (refusalLine number place) (now (out .exit)) r ⌝ }
+    ensures { λ r. ⌜ TextPut (now (out .entry)) 0 (refusalLine number place) (now (out .exit)) r ⌝ }
     ensures { λ r. ⌜ r ≤ 53 ⌝ }
 {
     words::put_pair(out, 0, b"refused", wide(number), b" at", wide(place))

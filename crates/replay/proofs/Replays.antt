@@ -19,7 +19,7 @@ use Rattle.walk.proofs.Rooms.{Agrees}
 use Rattle.walk.proofs.Walking.{Rooted, Walking, ahead, walking-starts, starts-ahead, kept, walking-over, walking-head, walking-heads}
 use Rattle.walk.proofs.Walking.{walking-own, walking-on}
 use Rattle.replay.specs.declared.Yield.the-variants.{One}
-use Rattle.replay.specs.Replays.{writesBy, writesIn, countAfter, told, Served, NumberedFrom}
+use Rattle.replay.specs.Replays.{writesBy, writesIn, countAfter, told, AtHead, NumberedFrom}
 use Rattle.replay.proofs.Cases.{Stepping, steps-written}
 use Rattle.replay.proofs.Finished.{agrees-now}
 
@@ -62,7 +62,7 @@ module _ {N n : ℕ} {m : List ℕ} {root : ℕ} (P : Rooted N n m root) {work :
     -- a turn at the lowest queue that isn't empty
     module _ (j : ℕ) (e : Lowest N c ps j) where
       -- all that a step asks
-      pub replay-served : 2 * n ≤ length work → Served n work c (getD ps j 0)
+      pub replay-served : 2 * n ≤ length work → AtHead n work c (getD ps j 0)
       replay-served hw =
           let h = walking-heads P (R .walking) j e in
           let o = walking-own P (R .walking) j e work (agrees-now P Q (R .walking)) in

@@ -58,7 +58,7 @@ told Nothing = []
 told (One s) = toldSymbol s ∷ []
 
 -- what a step asks of the head of its queue, the dart numbered p, when c darts are numbered: a dart that has that number
-pub record Served (n : ℕ) (work : List ℕ) (c p : ℕ) : Type 0 where
+pub record AtHead (n : ℕ) (work : List ℕ) (c p : ℕ) : Type 0 where
   pub position : p < n
   pub count : c ≤ 4096
   pub room : 2 * n ≤ length work

@@ -9,7 +9,7 @@ ghost use lib.ListN.{length, getD};
 ghost use lib.Dec.{ltb};
 ghost use Rattle.rules.specs.Map.{Limits, Valid};
 ghost use Rattle.walk.specs.Numbers.{numberIn, dartIn, positionsAfter};
-ghost use Rattle.replay.specs.Replays.{knownIn, deducingRank, writesIn, countAfter, replayedIn, Served};
+ghost use Rattle.replay.specs.Replays.{knownIn, deducingRank, writesIn, countAfter, replayedIn, AtHead};
 
 // What a step writes for aj(b): nothing where it is known or deduced, else its symbol.
 pub enum Yield {
@@ -134,7 +134,7 @@ pub fn step(
     count: u16,
 ) -> Replayed
     requires { ⌜ Limits dim darts (now tables) × Valid dim darts (now tables) × (j ≤ dim)
-        × (length (now positions) ≡ 7) × Served darts (now work) count (getD (now positions) j 0) ⌝ }
+        × (length (now positions) ≡ 7) × AtHead darts (now work) count (getD (now positions) j 0) ⌝ }
     ensures { λ r. let p = getD (now (positions .entry)) j 0 in
         ⌜ (r ≡ replayedIn dim darts (now (tables .entry)) (now (work .entry)) count j p)
         × (now (positions .exit) ≡ positionsAfter j (now (positions .entry))) ⌝ }

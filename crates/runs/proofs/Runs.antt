@@ -30,12 +30,12 @@ use Rattle.runs.specs.Turns.{Ready, toldTurn, Again, Turns}
 use Rattle.runs.specs.Runs.{signalRun, Runs}
 
 -- where a run stands that began at s0, c0 and t0
-pub record Going (N n : ℕ) (s0 : Stand) (c0 : Cursor) (t0 page : List ℕ) (s : Stand) (c : Cursor) (t : List ℕ) : Type 0 where
+pub record RunGoing (N n : ℕ) (s0 : Stand) (c0 : Cursor) (t0 page : List ℕ) (s : Stand) (c : Cursor) (t : List ℕ) : Type 0 where
   pub ready : Ready N n s c t page
   pub left : runAll (walkAt N n s0 t0) (atHand c0 page) ≡ runAll (walkAt N n s t) (atHand c page)
   pub same : length t ≡ length t0
 
-pub going-start : (N n : ℕ) (s : Stand) (c : Cursor) (t page : List ℕ) → Ready N n s c t page → Going N n s c t page s c t
+pub going-start : (N n : ℕ) (s : Stand) (c : Cursor) (t page : List ℕ) → Ready N n s c t page → RunGoing N n s c t page s c t
 going-start N n s c t page y = record { ready = y; left = refl; same = refl }
 
 -- the steps that are left by the positions
@@ -75,7 +75,7 @@ ran s c g = record { stand = s; cursor = c; signal = g }
 
 -- where a run stands that has come to the count k and positions ps
 module _ {N n : ℕ} {s0 : Stand} {c0 : Cursor} {t0 page : List ℕ} {k : ℕ} {ps : List ℕ} {c : Cursor} {t : List ℕ}
-    (g : Going N n s0 c0 t0 page (stand k ps) c t) where
+    (g : RunGoing N n s0 c0 t0 page (stand k ps) c t) where
   -- the walk here
   abbrev here : Walk
   here = walkAt N n (stand k ps) t
@@ -148,7 +148,7 @@ module _ {N n : ℕ} {s0 : Stand} {c0 : Cursor} {t0 page : List ℕ} {k : ℕ} {
           (fuel (size N n) (suc (size N n)) w' (atHand d page) (moves .inv) (unfold steps total walkAt in omega arith)
           (unfold steps total walkAt in omega arith))
 
-      pub going-more : length t' ≡ length t → Going N n s0 c0 t0 page (stand k' ps') d t' × Emptied k' ps' rank
+      pub going-more : length t' ≡ length t → RunGoing N n s0 c0 t0 page (stand k' ps') d t' × Emptied k' ps' rank
       unfolding Again
       going-more l =
           let a : Ready N n (stand k' ps') d t' page × Emptied k' ps' rank = rw m at (x .again) in

@@ -24,7 +24,7 @@ use Rattle.steps.specs.declared.Stepped.{Stepped}
 use Rattle.steps.specs.declared.Stepped.the-variants as stepped
 use Rattle.steps.specs.declared.Case.{Case}
 use Rattle.steps.specs.Partners.{partnerFor, toldPartner}
-use Rattle.steps.specs.Steps.{stand, Served, deducedStep, symbolStep, toldStep, Lower, Steps}
+use Rattle.steps.specs.Steps.{stand, HeadCase, deducedStep, symbolStep, toldStep, Lower, Steps}
 use Rattle.steps.proofs.Steps.{walk-start, partner-stand, stand-limits, stand-seven, serves, known-step}
 use Rattle.runs.specs.declared.Turned.the-variants.{On, Waits, Refused}
 use Rattle.runs.specs.Turns.{Ready, afterStep, toldTurn, Again, Turns}
@@ -67,7 +67,7 @@ module _ {N n k : ℕ} {ps : List ℕ} {c : Cursor} {t page : List ℕ} (y : Rea
 
   -- the head of the lowest queue that isn't empty is served, by what the tables say is to be done for it
   pub served : {j : ℕ} → Lowest N k ps j → (x : Case) → toldPartner x ≡ partnerFor N n t j (getD ps j 0) → (x' : Case) → x ≡ x'
-      → Served N n k ps t j (getD ps j 0) (toldPartner x')
+      → HeadCase N n k ps t j (getD ps j 0) (toldPartner x')
   served {j} low x ex x' e =
       serves N n k ps t (y .dims) (y .inv) j low (toldPartner x') (partner-stand N n (stand k ps) t j (getD ps j 0) x ex ∙ ap toldPartner e)
 
@@ -89,7 +89,7 @@ module _ {N n k : ℕ} {ps : List ℕ} {c : Cursor} {t page : List ℕ} (y : Rea
   turns d f z r ps' t' e l = record { tells = told-after N n k c d r ps' t' page ∙ e; again = goes-again d f z r ps' t' e l }
 
   -- at the head b of Lj, by what is to be done for it
-  module _ {j b : ℕ} {p : Partner} (v : Served N n k ps t j b p) where
+  module _ {j b : ℕ} {p : Partner} (v : HeadCase N n k ps t j b p) where
     stepping : (bs : List Bool) → step (walkAt N n (stand k ps) t) bs ≡ stepWith (walkAt N n (stand k ps) t) bs j b p
     unfolding step stepAt
     stepping bs = rw (v .heads, v .case)
@@ -114,19 +114,19 @@ module _ {N n k : ℕ} {ps : List ℕ} {c : Cursor} {t page : List ℕ} (y : Rea
         go (inl q) = unfold bitsOf begins in rw q
         go (inr a) = a .begun
 
-  pub turn-known : {j b : ℕ} → Served N n k ps t j b Partner.known → (ps' : List ℕ) → ps' ≡ set ps j (b + 1) → Turns N n k ps c t page (On j k c) ps' t
+  pub turn-known : {j b : ℕ} → HeadCase N n k ps t j b Partner.known → (ps' : List ℕ) → ps' ≡ set ps j (b + 1) → Turns N n k ps c t page (On j k c) ps' t
   unfolding stepWith
   turn-known {j} v ps' e =
       let x = known-step v refl ps' e in
       turns c (y .fits) (still v known-asked) (stepped.On j k) ps' t (x .tells (atHand c page) ∙ sym (stepping v (atHand c page))) (x .lower)
 
-  pub turn-deduced : {j b e : ℕ} → Served N n k ps t j b (Partner.deduced e) → (r : Stepped) (ps' t' : List ℕ)
+  pub turn-deduced : {j b e : ℕ} → HeadCase N n k ps t j b (Partner.deduced e) → (r : Stepped) (ps' t' : List ℕ)
       → Steps N n k ps t (deducedStep j b e) r ps' t' → Turns N n k ps c t page (afterStep r c) ps' t'
   unfolding stepWith
   turn-deduced v r ps' t' x =
       turns c (y .fits) (still v deduced-asked) r ps' t' (x .tells (atHand c page) ∙ sym (stepping v (atHand c page))) (x .lower)
 
-  module _ {j b : ℕ} (v : Served N n k ps t j b Partner.asked) (got : Taken) (x : SymbolTaken got c page) where
+  module _ {j b : ℕ} (v : HeadCase N n k ps t j b Partner.asked) (got : Taken) (x : SymbolTaken got c page) where
     taking : step (walkAt N n (stand k ps) t) (atHand c page) ≡ stepTaken (walkAt N n (stand k ps) t) (atHand c page) j b (told got page)
     unfolding stepWith
     taking = stepping v (atHand c page) ∙ rw (x .tells)

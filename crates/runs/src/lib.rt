@@ -9,7 +9,7 @@ use symbols::Taken;
 ghost use mathlib.Core.Path.{_≡_};
 ghost use Rattle.rules.specs.Inner.{Lowest};
 ghost use Rattle.rules.specs.Walk.{Partner};
-ghost use Rattle.steps.specs.Steps.{stand, Served};
+ghost use Rattle.steps.specs.Steps.{stand, HeadCase};
 ghost use Rattle.runs.specs.Turns.{afterStep, Ready, Turns};
 ghost use Rattle.runs.specs.Runs.{ranAt, Runs};
 
@@ -75,7 +75,7 @@ pub fn asked(
     c: Cursor,
     page: &[u8],
 ) -> Turned
-    requires { ⌜ Ready dim darts (stand count (now positions)) c (now tables) (now page) × Served dim darts count (now positions) (now tables) j (b .0) Partner.asked ⌝ }
+    requires { ⌜ Ready dim darts (stand count (now positions)) c (now tables) (now page) × HeadCase dim darts count (now positions) (now tables) j (b .0) Partner.asked ⌝ }
     ensures { λ r. ⌜ Turns dim darts count (now (positions .entry)) c (now (tables .entry)) (now (page .entry)) r (now (positions .exit)) (now (tables .exit)) ⌝ }
 {
     match c.take_symbol(page) {

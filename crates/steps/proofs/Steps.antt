@@ -24,7 +24,7 @@ use Rattle.rules.proofs.Fitness.{queues-of}
 use Rattle.steps.specs.declared.Stepped.the-variants.{On, Refused}
 use Rattle.steps.specs.declared.Case.{Case}
 use Rattle.steps.specs.Partners.{partnerFor, toldPartner}
-use Rattle.steps.specs.Steps.{stand, mayName, Tied, Served, deducedStep, symbolStep, toldStep, Lower, Steps}
+use Rattle.steps.specs.Steps.{stand, mayName, Tied, HeadCase, deducedStep, symbolStep, toldStep, Lower, Steps}
 use Rattle.steps.proofs.Partners.{partner-looking}
 
 -- a link's place is within the tables
@@ -66,7 +66,7 @@ module _ (N n k : ℕ) (ps t : List ℕ) (dims : 1 ≤ N) (v : Inv (walkAt N n (
   stand-seven = v .shape .seven
 
   pub serves : (j : ℕ) → Lowest N k ps j → (p : Partner) → partner (walkAt N n (stand k ps) t) j (getD ps j 0) ≡ p
-      → Served N n k ps t j (getD ps j 0) p
+      → HeadCase N n k ps t j (getD ps j 0) p
   unfolding walkAt
   serves j low p e = record {
     inv = v;
@@ -94,7 +94,7 @@ abbrev pub knownStep : ℕ → ℕ → Walk → List Bool → Step
 knownStep j b w rest = Step.goes (pass w j b) rest
 
 -- the walk after b has left Lj: with aj(b) as it was, with aj(b) = e made known, and with a new dart
-module _ {N n k : ℕ} {ps t : List ℕ} {j b : ℕ} {p : Partner} (v : Served N n k ps t j b p) where
+module _ {N n k : ℕ} {ps t : List ℕ} {j b : ℕ} {p : Partner} (v : HeadCase N n k ps t j b p) where
   -- the walk before
   abbrev here : Walk
   here = walkAt N n (stand k ps) t
@@ -134,7 +134,7 @@ module _ {N n k : ℕ} {ps t : List ℕ} {j b : ℕ} {p : Partner} (v : Served N
       (walk-passed (Move.passes j b (v .heads) (v .case ∙ q)) ps' e) (still-empty ps' e)
 
 -- the step by a deduction, one way through the code at a time
-module _ {N n k : ℕ} {ps t : List ℕ} {j b e : ℕ} (v : Served N n k ps t j b (Partner.deduced e)) where
+module _ {N n k : ℕ} {ps t : List ℕ} {j b e : ℕ} (v : HeadCase N n k ps t j b (Partner.deduced e)) where
   -- a deduced partner has a number
   pub deduced-small : e < n
   unfolding walkAt
@@ -158,7 +158,7 @@ module _ {N n k : ℕ} {ps t : List ℕ} {j b e : ℕ} (v : Served N n k ps t j 
         record { tells = λ rest. rw u; lower = tt }
 
 -- the step by a symbol, one way through the code at a time
-module _ {N n k : ℕ} {ps t : List ℕ} {j b : ℕ} (v : Served N n k ps t j b Partner.asked) where
+module _ {N n k : ℕ} {ps t : List ℕ} {j b : ℕ} (v : HeadCase N n k ps t j b Partner.asked) where
   on : (x : Symbol) → permitted (here v) j b x ≡ true → (rank k' : ℕ) (ps' t' : List ℕ) → walkAt N n (stand k' ps') t' ≡ apply (here v) j b x
       → Emptied k' ps' rank
       → Steps N n k ps t (symbolStep j b x) (On rank k') ps' t'

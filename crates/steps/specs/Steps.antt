@@ -32,7 +32,7 @@ pub record Tied (N n : ℕ) (ps t : List ℕ) (j b e : ℕ) (ps' t' : List ℕ) 
   pub tables : t' ≡ tablesJoined N n t j b e
 
 -- b is at the head of Lj, and p is to be done for it
-pub record Served (N n k : ℕ) (ps t : List ℕ) (j b : ℕ) (p : Partner) : Type 0 where
+pub record HeadCase (N n k : ℕ) (ps t : List ℕ) (j b : ℕ) (p : Partner) : Type 0 where
   pub inv : Inv (walkAt N n (stand k ps) t)
   pub heads : head (walkAt N n (stand k ps) t) ≡ Head.at j b
   pub case : partner (walkAt N n (stand k ps) t) j b ≡ p

@@ -11,7 +11,7 @@ ghost use Rattle.rules.specs.Map.{Limits, link};
 ghost use Rattle.rules.specs.Walk.{Partner};
 ghost use Rattle.rules.specs.Symbols.{toldSymbol};
 ghost use Rattle.steps.specs.Partners.{deducedFor, partnerFor, toldPartner};
-ghost use Rattle.steps.specs.Steps.{tablesJoined, mayName, deducedStep, symbolStep, Tied, Served, Steps};
+ghost use Rattle.steps.specs.Steps.{tablesJoined, mayName, deducedStep, symbolStep, Tied, HeadCase, Steps};
 
 // The case of a step: what is to be done for aj(b).
 pub enum Case {
@@ -139,7 +139,7 @@ pub fn by_deduction(
     b: WalkNo,
     e: WalkNo,
 ) -> Stepped
-    requires { ⌜ Served dim darts count (now positions) (now tables) j (b .0) (Partner.deduced (e .0)) ⌝ }
+    requires { ⌜ HeadCase dim darts count (now positions) (now tables) j (b .0) (Partner.deduced (e .0)) ⌝ }
     ensures { λ r. ⌜ Steps dim darts count (now (positions .entry)) (now (tables .entry)) (deducedStep j (b .0) (e .0)) r (now (positions .exit)) (now (tables .exit)) ⌝ }
 {
     if known_link(tables, dim, darts, j, e).0 == Session::NO_LINK {
@@ -161,7 +161,7 @@ pub fn by_symbol(
     b: WalkNo,
     s: Symbol,
 ) -> Stepped
-    requires { ⌜ Served dim darts count (now positions) (now tables) j (b .0) Partner.asked ⌝ }
+    requires { ⌜ HeadCase dim darts count (now positions) (now tables) j (b .0) Partner.asked ⌝ }
     ensures { λ r. ⌜ Steps dim darts count (now (positions .entry)) (now (tables .entry)) (symbolStep j (b .0) (toldSymbol s)) r (now (positions .exit)) (now (tables .exit)) ⌝ }
 {
     match s {

@@ -29,7 +29,7 @@ abbrev pub namesAfter : List ℕ → ℕ → List ℕ
 namesAfter names x = cond (nameless names x) (names ++ (x ∷ [])) names
 
 -- a step over a map at the head of Lj, whose partner is x: a new one gets the next number, whatever else is known
-pub record Stepped (m : List ℕ) (w : Walk) (names : List ℕ) (j x : ℕ) : Type 0 where
+pub record WalkStep (m : List ℕ) (w : Walk) (names : List ℕ) (j x : ℕ) : Type 0 where
   pub out : List Symbol
   pub walk : Walk
   pub step : writeStep m w names ≡ Written.wrote out walk (namesAfter names x)
@@ -52,14 +52,14 @@ module _ (m : List ℕ) (root : ℕ) (w : Walk) (names : List ℕ) (v : Inv w) (
   has-number : (e : ℕ) → e < w .count → name names e ≡ other → nameless names other ≡ false
   has-number e l q = ne-eqb (number names other) (length names) (omega (arith, M .len, M .back e l, ap (number names) q))
 
-  stepped : Stepped m w names j other
+  stepped : WalkStep m w names j other
   unfolding writeStep writeAt writeWith writeSymbol symbolOf named name apply tie pass join fresh other
   stepped = go (partner w j b) refl
     where
       one : getD (w .positions) j 0 + 1 ≡ suc (getD (w .positions) j 0)
       one = omega arith
 
-      asked : partner w j b ≡ Partner.asked → (s u : Bool) → eqb other (name names b) ≡ s → nameless names other ≡ u → Stepped m w names j other
+      asked : partner w j b ≡ Partner.asked → (s u : Bool) → eqb other (name names b) ≡ s → nameless names other ≡ u → WalkStep m w names j other
       asked p true u q r =
           let z = has-number b below (sym (eqb-true other (name names b) q)) in
           record { out = Symbol.border ∷ []; walk = apply w j b Symbol.border; step = rw (h, p, q, z); positions = rw one; count = rw z }
@@ -69,7 +69,7 @@ module _ (m : List ℕ) (root : ℕ) (w : Walk) (names : List ℕ) (v : Inv w) (
           let s = Symbol.index (number names other) in
           record { out = s ∷ []; walk = apply w j b s; step = rw (h, p, q, r); positions = rw one; count = rw r }
 
-      go : (p : Partner) → partner w j b ≡ p → Stepped m w names j other
+      go : (p : Partner) → partner w j b ≡ p → WalkStep m w names j other
       go Partner.known p =
           let k = see-known w j b p in
           let l = v .links .far j b (turn .next .ranked) (omega (arith, below, v .shape .within)) k in
@@ -211,7 +211,7 @@ module _ {N n : ℕ} {m : List ℕ} {root : ℕ} (P : Rooted N n m root) where
           (d, rw d (name-low (getD ps j 0) l), rw d (R .numbered (name (G .names) (getD ps j 0)) (omega arith) ∙ q))
 
       -- the step
-      pub walking-stepped : Stepped m (G .walk) (G .names) j partner-named
+      pub walking-stepped : WalkStep m (G .walk) (G .names) j partner-named
       unfolding partner-named other
       walking-stepped =
           rw (← kept .dim, ← kept .darts)

@@ -8,10 +8,10 @@ use native.Mathlib.Numerals.{add-one}
 use lib.ListN.{length, getD, take, drop, set, length-append, length-set, length-take, take-append-drop}
 use lib.Seq.{take-suc, take-suc-set, take-length, drop-drop}
 use Rattle.io.specs.Counts.{Counts}
-use Rattle.words.specs.Room.{Wrote, begun}
+use Rattle.words.specs.Room.{TextPut, begun}
 use Rattle.words.specs.Words.{each}
 
-pub wrote-none : (out : List ℕ) (at r : ℕ) → r ≡ at → Wrote out at [] out r
+pub wrote-none : (out : List ℕ) (at r : ℕ) → r ≡ at → TextPut out at [] out r
 wrote-none out at r e = record { ends = omega arith; room = refl; text = rw e (sym (append-nil (take at out))); past = refl }
 
 -- what stands after an entry does not depend on it
@@ -24,14 +24,14 @@ drop-set l i x = rw add-one (go l i)
     go (y ∷ l) zero = refl
     go (y ∷ l) (suc i) = go l i
 
-module _ {out : List ℕ} {at : ℕ} {w o : List ℕ} {r : ℕ} (p : Wrote out at w o r) where
+module _ {out : List ℕ} {at : ℕ} {w o : List ℕ} {r : ℕ} (p : TextPut out at w o r) where
   -- past the text, and so past any later place, the room is as it was
   further : (q : ℕ) → r ≤ q → drop q o ≡ drop q out
   further q h =
       let e : q ≡ r + (q - r) = omega arith in
       rw (e, ← drop-drop (q - r) r o, ← drop-drop (q - r) r out) (ap (λ (l : List ℕ). drop (q - r) l) (p .past))
 
-  pub wrote-next : (x q : ℕ) → q ≡ r + 1 → r < length o → Wrote out at (w ++ (x ∷ [])) (set o r x) q
+  pub wrote-next : (x q : ℕ) → q ≡ r + 1 → r < length o → TextPut out at (w ++ (x ∷ [])) (set o r x) q
   wrote-next x q e h = record {
     ends = simp length-append (omega (arith, p .ends));
     room = simp length-set (p .room);
@@ -39,7 +39,7 @@ module _ {out : List ℕ} {at : ℕ} {w o : List ℕ} {r : ℕ} (p : Wrote out a
     past = rw e (drop-set o r x ∙ further (r + 1) (omega arith));
   }
 
-  pub wrote-then : {v o' : List ℕ} {q : ℕ} → Wrote o r v o' q → Wrote out at (w ++ v) o' q
+  pub wrote-then : {v o' : List ℕ} {q : ℕ} → TextPut o r v o' q → TextPut out at (w ++ v) o' q
   wrote-then {v} {o'} {q} s = record {
     ends = simp length-append (omega (arith, p .ends, s .ends));
     room = s .room ∙ p .room;
@@ -48,7 +48,7 @@ module _ {out : List ℕ} {at : ℕ} {w o : List ℕ} {r : ℕ} (p : Wrote out a
   }
 
   -- the text under another name
-  pub wrote-same : {v : List ℕ} → w ≡ v → Wrote out at v o r
+  pub wrote-same : {v : List ℕ} → w ≡ v → TextPut out at v o r
   wrote-same e = record {
     ends = p .ends ∙ ap (λ (l : List ℕ). at + length l) e;
     room = p .room;
@@ -70,7 +70,7 @@ each-more k f = rw add-one refl
 
 -- f 0, .., f (i - 1) are there, each in at most k bytes
 pub record Row (out : List ℕ) (at k : ℕ) (f : ℕ → List ℕ) (o : List ℕ) (end i : ℕ) : Type 0 where
-  pub wrote : Wrote out at (each i f) o end
+  pub wrote : TextPut out at (each i f) o end
   pub short : end ≤ at + k * i
 
 pub row-none : (out : List ℕ) (at k : ℕ) (f : ℕ → List ℕ) → Row out at k f out at 0
@@ -78,17 +78,17 @@ unfolding each
 row-none out at k f = record { wrote = wrote-none out at at refl; short = omega arith }
 
 module _ {out : List ℕ} {at k : ℕ} {f : ℕ → List ℕ} {o : List ℕ} {end i : ℕ} (p : Row out at k f o end i) where
-  pub row-next : {w o' : List ℕ} {r : ℕ} → Wrote o end w o' r → r ≤ end + k → w ≡ f i → Row out at k f o' r (i + 1)
+  pub row-next : {w o' : List ℕ} {r : ℕ} → TextPut o end w o' r → r ≤ end + k → w ≡ f i → Row out at k f o' r (i + 1)
   row-next {w} s h e = record {
     wrote = wrote-same (wrote-then (p .wrote) s) (ap (λ (l : List ℕ). each i f ++ l) e ∙ sym (each-more i f));
     short = omega (arith, p .short, h);
   }
 
-  pub row-end : (n : ℕ) → i ≡ n → Wrote out at (each n f) o end × (end ≤ at + k * n)
+  pub row-end : (n : ℕ) → i ≡ n → TextPut out at (each n f) o end × (end ≤ at + k * n)
   row-end n e = (wrote-same (p .wrote) (ap (λ (x : ℕ). each x f) e), rw (sym e) (p .short))
 
 -- a text that begins the room is what the room holds up to its end, and the rest is as it was
-pub listed : {out w o v : List ℕ} {r k : ℕ} → Wrote out 0 w o r → r ≤ k → k ≤ length out → w ≡ v → ((r ≡ length v) × (o ≡ begun v out)) × Counts r o
+pub listed : {out w o v : List ℕ} {r k : ℕ} → TextPut out 0 w o r → r ≤ k → k ≤ length out → w ≡ v → ((r ≡ length v) × (o ≡ begun v out)) × Counts r o
 listed {out} {w} {o} {v} {r} p h l e =
     let b : r ≤ length o = omega (arith, p .room) in
     let n : r ≡ length v = p .ends ∙ rw e (omega arith) in

@@ -5,7 +5,7 @@ use mathlib.Core.List.{List, _++_}
 use lib.ListN.{length, take, drop}
 
 -- the text w from at on, up to r
-pub record Wrote (out : List ℕ) (at : ℕ) (w : List ℕ) (after : List ℕ) (r : ℕ) : Type 0 where
+pub record TextPut (out : List ℕ) (at : ℕ) (w : List ℕ) (after : List ℕ) (r : ℕ) : Type 0 where
   pub ends : r ≡ at + length w
   pub room : length after ≡ length out
   pub text : take r after ≡ take at out ++ w

@@ -3,12 +3,12 @@ use Prim.Native.Nat.{_-_}
 use mathlib.Core.Logic.{⊎-elim}
 use native.Mathlib.Omega.{arith}
 use Rattle.fitness.specs.Parts.{blankAt}
-use Rattle.fitness.proofs.Laws.{Tallied, tallied-start, tallied-pass, tallied-fail, tallied-end, blank-yes, blank-no}
+use Rattle.fitness.proofs.Laws.{Faulty, tallied-start, tallied-pass, tallied-fail, tallied-end, blank-yes, blank-no}
 use Rattle.fitness.proofs.blank_fit.Statement.{statement}
 use Rattle.fitness.proofs.blank_fit.Tie as tie
 
 abbrev Inv-loop : tie.InvT-loop
-Inv-loop tables from to bad₀ k₀ bad k = Tallied (blankAt tables) from to k bad
+Inv-loop tables from to bad₀ k₀ bad k = Faulty (blankAt tables) from to k bad
 
 abbrev μ-loop : tie.MeasureT-loop
 μ-loop tables from to bad₀ k₀ bad k = to - k

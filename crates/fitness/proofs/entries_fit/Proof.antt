@@ -3,12 +3,12 @@ use Prim.Native.Nat.{suc, _-_}
 use mathlib.Core.Path.{sym, _∙_}
 use native.Mathlib.Omega.{arith}
 use borrow.Author.Tests.{not-true, not-false}
-use Rattle.fitness.proofs.Laws.{Passed, passed-start, passed-next, passed-end, fails-at, rankAt, by-ranks}
+use Rattle.fitness.proofs.Laws.{PassedSoFar, passed-start, passed-next, passed-end, fails-at, rankAt, by-ranks}
 use Rattle.fitness.proofs.entries_fit.Statement.{statement}
 use Rattle.fitness.proofs.entries_fit.Tie as tie
 
 abbrev Inv-loop : tie.InvT-loop
-Inv-loop tables dim darts count positions rank₀ rank = Passed (rankAt dim darts tables count positions) (suc dim) rank
+Inv-loop tables dim darts count positions rank₀ rank = PassedSoFar (rankAt dim darts tables count positions) (suc dim) rank
 
 abbrev μ-loop : tie.MeasureT-loop
 μ-loop tables dim darts count positions rank₀ rank = suc dim - rank

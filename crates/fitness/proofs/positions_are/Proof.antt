@@ -2,12 +2,12 @@
 use Prim.Native.Nat.{_-_}
 use native.Mathlib.Omega.{arith}
 use Rattle.fitness.specs.Parts.{isAt}
-use Rattle.fitness.proofs.Laws.{Passed, passed-start, passed-next, passed-end, fails-at, is-yes, is-no}
+use Rattle.fitness.proofs.Laws.{PassedSoFar, passed-start, passed-next, passed-end, fails-at, is-yes, is-no}
 use Rattle.fitness.proofs.positions_are.Statement.{statement}
 use Rattle.fitness.proofs.positions_are.Tie as tie
 
 abbrev Inv-loop : tie.InvT-loop
-Inv-loop k x positions i₀ i = Passed (isAt positions x) k i
+Inv-loop k x positions i₀ i = PassedSoFar (isAt positions x) k i
 
 abbrev μ-loop : tie.MeasureT-loop
 μ-loop k x positions i₀ i = k - i

@@ -5,12 +5,12 @@ use mathlib.Core.List.{_∷_}
 use native.Mathlib.Omega.{arith}
 use lib.ListN.{getD}
 use Rattle.fitness.specs.Parts.{fallsAt}
-use Rattle.fitness.proofs.Laws.{Passed, passed-start, passed-next, passed-end, fails-at, falls-no, falls-yes, next-above}
+use Rattle.fitness.proofs.Laws.{PassedSoFar, passed-start, passed-next, passed-end, fails-at, falls-no, falls-yes, next-above}
 use Rattle.fitness.proofs.positions_fall.Statement.{statement}
 use Rattle.fitness.proofs.positions_fall.Tie as tie
 
 abbrev Inv-loop : tie.InvT-loop
-Inv-loop dim count positions above₀ i₀ above i = Passed (fallsAt count positions) (suc dim) i × (above ≡ getD (count ∷ positions) i 0)
+Inv-loop dim count positions above₀ i₀ above i = PassedSoFar (fallsAt count positions) (suc dim) i × (above ≡ getD (count ∷ positions) i 0)
 
 abbrev μ-loop : tie.MeasureT-loop
 μ-loop dim count positions above₀ i₀ above i = suc dim - i

@@ -2,12 +2,12 @@
 use Prim.Native.Nat.{_-_, _<_}
 use native.Mathlib.Omega.{arith}
 use Rattle.fitness.specs.Parts.{overAt}
-use Rattle.fitness.proofs.Laws.{Passed, past-start, passed-next, passed-end, fails-at, past-no, past-yes}
+use Rattle.fitness.proofs.Laws.{PassedSoFar, past-start, passed-next, passed-end, fails-at, past-no, past-yes}
 use Rattle.fitness.proofs.positions_past.Statement.{statement}
 use Rattle.fitness.proofs.positions_past.Tie as tie
 
 abbrev Inv-loop : tie.InvT-loop
-Inv-loop dim positions i₀ i = Passed (overAt dim positions) 7 i × (dim < i)
+Inv-loop dim positions i₀ i = PassedSoFar (overAt dim positions) 7 i × (dim < i)
 
 abbrev μ-loop : tie.MeasureT-loop
 μ-loop dim positions i₀ i = 7 - i

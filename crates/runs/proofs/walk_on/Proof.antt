@@ -9,13 +9,13 @@ use Rattle.rules.specs.Inner.{Emptied}
 use Rattle.rules.proofs.Lowest.{emptied-none, emptied-next}
 use Rattle.steps.specs.Steps.{stand}
 use Rattle.runs.proofs.Turns.{ready-limits, ready-seven}
-use Rattle.runs.proofs.Runs.{Going, going-start, stepsLeft, going-less, going-more, run-ended, run-waits, run-refused}
+use Rattle.runs.proofs.Runs.{RunGoing, going-start, stepsLeft, going-less, going-more, run-ended, run-waits, run-refused}
 use Rattle.runs.proofs.walk_on.Statement.{statement}
 use Rattle.runs.proofs.walk_on.Tie as tie
 
 abbrev Inv-loop : tie.InvT-loop
 Inv-loop tables₀ positions₀ dim darts count page rank₀ numbered₀ cursor₀ tables positions rank numbered cursor =
-    Going dim darts (stand numbered₀ positions₀) cursor₀ tables₀ page (stand numbered positions) cursor tables
+    RunGoing dim darts (stand numbered₀ positions₀) cursor₀ tables₀ page (stand numbered positions) cursor tables
     × Emptied numbered positions rank × (length positions ≡ length positions₀)
 
 abbrev μ-loop : tie.MeasureT-loop

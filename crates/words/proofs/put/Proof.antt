@@ -3,13 +3,13 @@ use Prim.Native.Nat.{_+_, _-_, _≤_}
 use mathlib.Core.Path.{_≡_, refl}
 use native.Mathlib.Omega.{arith}
 use lib.ListN.{length, take, length-set}
-use Rattle.words.specs.Room.{Wrote}
+use Rattle.words.specs.Room.{TextPut}
 use Rattle.words.proofs.Laws.{wrote-none, wrote-next, wrote-same, take-more, take-all}
 use Rattle.words.proofs.put.Statement.{statement}
 use Rattle.words.proofs.put.Tie as tie
 
 abbrev Inv-loop : tie.InvT-loop
-Inv-loop out₀ at word i₀ out i = (i ≤ length word) × (length out ≡ length out₀) × Wrote out₀ at (take i word) out (at + i)
+Inv-loop out₀ at word i₀ out i = (i ≤ length word) × (length out ≡ length out₀) × TextPut out₀ at (take i word) out (at + i)
 
 abbrev μ-loop : tie.MeasureT-loop
 μ-loop out₀ at word i₀ out i = length word - i
