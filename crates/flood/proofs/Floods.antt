@@ -11,7 +11,7 @@ use Rattle.rules.specs.Map.{link, Reached}
 use Rattle.rules.proofs.Lists.{or-cases, or-left, or-right}
 use Rattle.flood.specs.declared.Ranks.{Ranks}
 use Rattle.flood.specs.Flood.{kept, between, Marked, queued, enteredRoom, enteredTail, Queue, Extended, Linked, Traced, Around, Explored}
-use Rattle.flood.specs.Flood.{LinksInside, OrbitInside, SpreadFrom, Flooded}
+use Rattle.flood.specs.Flood.{LinksInside, OrbitInside, SpreadFrom, Flooding, Flooded}
 use Rattle.flood.proofs.Sets.{between-yes, between-none, between-only, kept-runs}
 use Rattle.flood.proofs.Queues.{Entered, extended-refl, extended-marked, extended-trans, extended-class, extended-place, queue-parts, entry}
 
@@ -50,12 +50,12 @@ module _ (ranks : Ranks) (N n : ℕ) (t : List ℕ) (d : ℕ) (L : LinksInside (
   pub inside-high : LinksInside (between (ranks .high) (N + 1)) N n t d
   inside-high i h k = L i h (kept-runs ranks N i h ∙ or-right (between 0 (ranks .low) i) (between (ranks .high) (N + 1) i) k)
 
--- a flood is on its way: the queue is traced from the start, and explored from the start's place up to the head
-pub record Flooding (keep : ℕ → Bool) (N n : ℕ) (t : List ℕ) (start class tail tail' head end : ℕ) (w w' : List ℕ) : Type 0 where
-  pub on : Extended n tail' end w w'
-  pub begun : tail ≤ head
-  pub traced : Traced keep N n t start class tail end w'
-  pub explored : Explored keep N n t tail head w'
+-- the queue is no shorter once a start has come up
+pub entered-later : {n start class tail tail' : ℕ} {w w' : List ℕ} → Queue n tail w → start < n → class < 2
+    → tail' ≡ enteredTail w tail start → w' ≡ enteredRoom n w tail start class → tail ≤ tail'
+entered-later {n} {start} {class} {tail} {tail'} {w} {w'} Q hs hc et ew =
+    let E : Entered n start class tail tail' w w' = rw (et, ew) (entry Q hs hc) in
+    E .on .longer
 
 module _ {N n : ℕ} {t : List ℕ} where
   -- what was traced stays so
@@ -161,6 +161,14 @@ module _ {N n : ℕ} {t : List ℕ} where
             go (no e) = explored-on keep N n t (S .on) tail head (omega arith) (F .explored) p hf (omega arith)
 
     -- the head has come to the queue's end
+    pub flooding-over : tail ≤ tail' → end ≤ head → Flooding keep N n t start class tail tail' end end w w'
+    flooding-over l h = record {
+      on = F .on;
+      begun = omega (arith, F .on .longer);
+      traced = F .traced;
+      explored = λ p hf ht. F .explored p hf (omega arith);
+    }
+
     pub flooding-end : {w₀ : List ℕ} → tail' ≡ enteredTail w₀ tail start → w ≡ enteredRoom n w₀ tail start class → end ≤ head
         → Flooded keep N n t start class tail end w₀ w'
     flooding-end et ew h = record { on = rw (← et, ← ew) (F .on); traced = F .traced; explored = λ p hf ht. F .explored p hf (omega arith) }

@@ -14,6 +14,10 @@ use Rattle.flood.specs.declared.Ranks.{Ranks}
 unfoldable pub kept : Ranks → ℕ → Bool
 kept ranks i = ltb i (ranks .low) || leb (ranks .high) i
 
+-- the set by where its runs end and begin
+abbrev pub runs : ℕ → ℕ → Ranks
+runs low high = record { low = low; high = high }
+
 -- all ranks but one
 abbrev pub butOne : ℕ → Ranks
 butOne skip = record { low = skip; high = skip + 1 }
@@ -89,6 +93,13 @@ pub record SpreadFrom (keep : ℕ → Bool) (N n : ℕ) (t : List ℕ) (d tail t
   pub on : Extended n tail tail' w w'
   pub traced : Traced keep N n t d (getD w d 0) tail tail' w'
   pub around : Around keep N n t d w'
+
+-- a flood is on its way: the queue is traced from the start, and explored from the start's place up to the head
+pub record Flooding (keep : ℕ → Bool) (N n : ℕ) (t : List ℕ) (start class tail tail' head end : ℕ) (w w' : List ℕ) : Type 0 where
+  pub on : Extended n tail' end w w'
+  pub begun : tail ≤ head
+  pub traced : Traced keep N n t start class tail end w'
+  pub explored : Explored keep N n t tail head w'
 
 -- a flood has ended: what is new was reached from the start, and no link of the ranks kept leads from there to a dart with no mark
 pub record Flooded (keep : ℕ → Bool) (N n : ℕ) (t : List ℕ) (start class tail tail' : ℕ) (w w' : List ℕ) : Type 0 where

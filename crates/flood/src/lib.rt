@@ -2,11 +2,11 @@
 // each dart's class, 0 or 1, or the mark; the next n the queue: the darts marked so far, in order.
 use rules::Session;
 ghost use mathlib.Core.Path.{_≡_};
-ghost use Prim.Native.Nat.{_+_, _*_, _-_, _≤_, _<_};
+ghost use Prim.Native.Nat.{ℕ, _+_, _*_, _-_, _≤_, _<_};
 ghost use lib.ListN.{length, getD};
 ghost use Rattle.rules.specs.Map.{Limits, link};
-ghost use Rattle.flood.specs.Flood.{kept, butOne, between, enteredRoom, enteredTail, Queue, LinksInside};
-ghost use Rattle.flood.specs.Flood.{OrbitInside, SpreadFrom, Flooded};
+ghost use Rattle.flood.specs.Flood.{kept, runs, butOne, between, enteredRoom, enteredTail, Queue, LinksInside};
+ghost use Rattle.flood.specs.Flood.{OrbitInside, SpreadFrom, Flooding, Flooded};
 
 // A set of ranks as two runs: those below `low` and those from `high` on.
 pub struct Ranks {
@@ -96,35 +96,57 @@ pub fn spread_part(
     end
 }
 
-// The links of a set of ranks are followed from a dart: run by run, so that no turn of a loop asks whether a rank is
-// of the set.
+// The links of a set of ranks, those below `low` and those from `high` on, are followed from a dart: run by run, so that
+// no turn of a loop asks whether a rank is of the set.
 pub fn spread(
     tables: &[u16],
     work: &mut [u16],
     dim: usize,
     darts: usize,
-    ranks: Ranks,
+    low: usize,
+    high: usize,
     tail: usize,
     dart: u16,
 ) -> usize
-    requires { ⌜ Limits dim darts (now tables) × Queue darts tail (now work) × (ranks .low ≤ dim + 1) × (dart < darts)
-        × LinksInside (kept ranks) dim darts (now tables) dart × (getD (now work) dart 0 < 2) ⌝ }
-    ensures { λ r. ⌜ SpreadFrom (kept ranks) dim darts (now (tables .entry)) dart tail r
+    requires { ⌜ Limits dim darts (now tables) × Queue darts tail (now work) × (low ≤ dim + 1) × (dart < darts)
+        × LinksInside (kept (runs low high)) dim darts (now tables) dart × (getD (now work) dart 0 < 2) ⌝ }
+    ensures { λ r. ⌜ SpreadFrom (kept (runs low high)) dim darts (now (tables .entry)) dart tail r
         (now (work .entry)) (now (work .exit)) ⌝ }
 {
     let class = 1 - work[dart as usize];
-    let end = spread_part(tables, work, dim, darts, 0, ranks.low, tail, dart, class);
-    spread_part(
-        tables,
-        work,
-        dim,
-        darts,
-        ranks.high,
-        dim + 1,
-        end,
-        dart,
-        class,
-    )
+    let end = spread_part(tables, work, dim, darts, 0, low, tail, dart, class);
+    spread_part(tables, work, dim, darts, high, dim + 1, end, dart, class)
+}
+
+// The queue is gone through from a start that has just come up, and what each dart's links lead to comes up in turn. The
+// set's ends go by value, so that a flood of few darts costs no more than they do.
+pub fn flood_on(
+    tables: &[u16],
+    work: &mut [u16],
+    dim: usize,
+    darts: usize,
+    low: usize,
+    high: usize,
+    from: usize,
+    tail: usize,
+) -> usize
+    requires { ⌜ Limits dim darts (now tables) × (low ≤ dim + 1) × (from ≤ tail)
+        × ((start class : ℕ) × OrbitInside (kept (runs low high)) dim darts (now tables) start
+        × Flooding (kept (runs low high)) dim darts (now tables) start class from tail from tail (now work) (now work)) ⌝ }
+    ensures { λ r. ⌜ ((start class : ℕ)
+        → Flooding (kept (runs low high)) dim darts (now (tables .entry)) start class from tail from tail
+        (now (work .entry)) (now (work .entry))
+        → Flooding (kept (runs low high)) dim darts (now (tables .entry)) start class from tail r r
+        (now (work .entry)) (now (work .exit))) ⌝ }
+{
+    let mut end = tail;
+    let mut head = from;
+    while head < end {
+        let next = queued(work, darts, head);
+        end = spread(tables, work, dim, darts, low, high, end, next);
+        head += 1;
+    }
+    end
 }
 
 // All that links of a set of ranks reach from a dart is marked; the dart gets a class, and each link leads to the
@@ -144,12 +166,6 @@ pub fn flood(
     ensures { λ r. ⌜ Flooded (kept ranks) dim darts (now (tables .entry)) dart class tail r
         (now (work .entry)) (now (work .exit)) ⌝ }
 {
-    let mut end = enter(work, darts, tail, dart, class);
-    let mut head = tail;
-    while head < end {
-        let next = queued(work, darts, head);
-        end = spread(tables, work, dim, darts, ranks, end, next);
-        head += 1;
-    }
-    end
+    let end = enter(work, darts, tail, dart, class);
+    flood_on(tables, work, dim, darts, ranks.low, ranks.high, tail, end)
 }
