@@ -1,10 +1,10 @@
 # Read by surface/test, surface/vectors and surface/bench: the archive, and how a C program of this folder is built
 # with it and run.
 #
-# The archive is made by `rt staticlib exchange`; if KANZHULET_LIB names a folder, the libexchange.a in it is taken
-# instead. The archive is for x86-64. There the system's C compiler is used, or the kit's if there is none, and the
-# programs run as they are. On another processor the kit's compiler builds them for x86-64 and the kit's emulator runs
-# them.
+# The archive is made by `rt staticlib exchange` where there is none or a crate is younger; if KANZHULET_LIB names a
+# folder, the libexchange.a in it is taken instead. The archive is for x86-64. There the system's C compiler is used,
+# or the kit's if there is none, and the programs run as they are. On another processor the kit's compiler builds them
+# for x86-64 and the kit's emulator runs them.
 
 root=$(cd "$(dirname "${BASH_SOURCE[0]}")/.." && pwd -P)
 build=$root/target/surface
@@ -23,12 +23,19 @@ find_kit() {
   [ -x "$kit/bin/clang" ] || stop "the kit has no compiler for this machine"
 }
 
+# Is an archive missing, or older than something that is proved?
+stale() {
+  [ ! -f "$1" ] || [ -n "$(find "$root/crates" "$root/crates.txt" -newer "$1" -print -quit)" ]
+}
+
 find_archive() {
   if [ -n "${KANZHULET_LIB:-}" ]; then
     lib=$(cd "$KANZHULET_LIB" && pwd -P)
   else
-    (cd "$root" && rt staticlib exchange)
     lib=$root/target/staticlib
+    if stale "$lib/libexchange.a"; then
+      (cd "$root" && rt staticlib exchange)
+    fi
   fi
   archive=$lib/libexchange.a
   [ -f "$archive" ] || stop "there is no libexchange.a in $lib"

@@ -218,8 +218,8 @@ pub fn walk_fits(s: Session, tables: &[u16]) -> bool
     entries_fit(tables, dim, darts, count, positions)
 }
 
-// The rank of the lowest queue that isn't empty, or N+1. The queues below it are empty, so it holds the numbers from its
-// position up to the count.
+// The rank of the lowest queue that isn't empty, or N+1. The queues below it are empty, so it holds the numbers from
+// its position up to the count.
 pub fn lowest(dim: usize, count: u16, positions: [u16; 7]) -> usize
     requires { ⌜ dim ≤ 6 ⌝ }
     ensures { λ r. ⌜ Found dim count positions r ⌝ }
@@ -254,7 +254,8 @@ pub fn asks(dim: usize, darts: usize, stand: Stand, tables: &[u16]) -> bool
 
 // None, or 1, or 11 and up to eleven more: bits that begin a symbol and don't finish it.
 pub fn begins(bits: u16, value: u16) -> bool
-    ensures { λ r. ⌜ r ≡ (leb bits 13 && ltb value (2 ^ bits) && Rattle.rules.specs.Session.begins (bitsOf bits value)) ⌝ }
+    ensures { λ r. ⌜ r ≡ (leb bits 13 && ltb value (2 ^ bits) && Rattle.rules.specs.Session.begins
+        (bitsOf bits value)) ⌝ }
 {
     if Session::WAITING < bits {
         return false;

@@ -96,8 +96,8 @@ pub fn spread_part(
     end
 }
 
-// The links of a set of ranks, those below `low` and those from `high` on, are followed from a dart: run by run, so that
-// no turn of a loop asks whether a rank is of the set.
+// The links of a set of ranks, those below `low` and those from `high` on, are followed from a dart: run by run, so
+// that no turn of a loop asks whether a rank is of the set.
 pub fn spread(
     tables: &[u16],
     work: &mut [u16],
@@ -118,8 +118,8 @@ pub fn spread(
     spread_part(tables, work, dim, darts, high, dim + 1, end, dart, class)
 }
 
-// The queue is gone through from a start that has just come up, and what each dart's links lead to comes up in turn. The
-// set's ends go by value, so that a flood of few darts costs no more than they do.
+// The queue is gone through from a start that has just come up, and what each dart's links lead to comes up in turn.
+// The set's ends go by value, so that a flood of few darts costs no more than they do.
 pub fn flood_on(
     tables: &[u16],
     work: &mut [u16],
@@ -132,7 +132,8 @@ pub fn flood_on(
 ) -> usize
     requires { ⌜ Limits dim darts (now tables) × (low ≤ dim + 1) × (from ≤ tail)
         × ((start class : ℕ) × OrbitInside (kept (runs low high)) dim darts (now tables) start
-        × Flooding (kept (runs low high)) dim darts (now tables) start class from tail from tail (now work) (now work)) ⌝ }
+        × Flooding (kept (runs low high)) dim darts (now tables) start class from tail from tail (now work)
+        (now work)) ⌝ }
     ensures { λ r. ⌜ ((start class : ℕ)
         → Flooding (kept (runs low high)) dim darts (now (tables .entry)) start class from tail from tail
         (now (work .entry)) (now (work .entry))

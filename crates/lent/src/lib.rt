@@ -1,5 +1,5 @@
-// The session's calls over a record that the caller lends: each takes the record out, makes the call by value and writes
-// the new record back.
+// The session's calls over a record that the caller lends: each takes the record out, makes the call by value and
+// writes the new record back.
 use rules::ReadAnswer;
 use rules::Session;
 ghost use mathlib.Core.Path.{_≡_};
@@ -8,7 +8,8 @@ ghost use Rattle.lent.specs.Lent.{lentBy};
 
 // The page call.
 pub fn page(s: &mut Session, bytes: &[u8], tables: &mut [u16]) -> ReadAnswer
-    ensures { λ r. ⌜ lentBy (now (s .exit)) r (now (tables .exit)) ≡ calls.page (now (s .entry)) (now (bytes .entry)) (now (tables .entry)) ⌝ }
+    ensures { λ r. ⌜ lentBy (now (s .exit)) r (now (tables .exit)) ≡ calls.page (now (s .entry))
+        (now (bytes .entry)) (now (tables .entry)) ⌝ }
 {
     let p = reader::page(*s, bytes, tables);
     *s = p.session;
@@ -17,7 +18,8 @@ pub fn page(s: &mut Session, bytes: &[u8], tables: &mut [u16]) -> ReadAnswer
 
 // The close call.
 pub fn close(s: &mut Session, tables: &mut [u16]) -> ReadAnswer
-    ensures { λ r. ⌜ lentBy (now (s .exit)) r (now (tables .exit)) ≡ calls.close (now (s .entry)) (now (tables .entry)) ⌝ }
+    ensures { λ r. ⌜ lentBy (now (s .exit)) r (now (tables .exit)) ≡ calls.close (now (s .entry))
+        (now (tables .entry)) ⌝ }
 {
     let p = reader::close(*s, tables);
     *s = p.session;

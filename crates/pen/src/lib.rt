@@ -1,5 +1,5 @@
-// Bits out: a pen gathers bits into bytes, most significant first, and stores only the bytes that fall into a page
-// of the stream.
+// Bits out: a pen gathers bits into bytes, most significant first, and stores only the bytes that fall into a page of
+// the stream.
 use rules::Symbol;
 ghost use mathlib.Core.Path.{_≡_};
 ghost use mathlib.Core.Bool.{Bool};

@@ -22,7 +22,8 @@ ghost use Rattle.reader.specs.Calls.{headed, cursorOf};
 // Both header bytes are in; the page goes on at a byte of it.
 pub fn begin(first: u8, second: u8, at: usize, page: &[u8], tables: &mut [u16]) -> Paged
     requires { ⌜ at ≤ length (now page) ⌝ }
-    ensures { λ r. let t = now (tables .entry) in ⌜ leftBy r (now (tables .exit)) ≡ leaves (headed first second (unpack (drop at (now (page .entry)))) t) t ⌝ }
+    ensures { λ r. let t = now (tables .entry) in ⌜ leftBy r (now (tables .exit))
+        ≡ leaves (headed first second (unpack (drop at (now (page .entry)))) t) t ⌝ }
 {
     let dim = (first / 16) as usize;
     let darts = (first % 16) as usize * 256 + second as usize + 1;
@@ -62,7 +63,8 @@ pub fn header_waits(waiting: u16, value: u16) -> Paged
 // A page on a header session with no bits or eight.
 pub fn page_header(s: Session, page: &[u8], tables: &mut [u16]) -> Paged
     requires { ⌜ ((s .waiting ≡ 0) ⊎ (s .waiting ≡ 8)) × (s .value < 256) ⌝ }
-    ensures { λ r. let t = now (tables .entry) in ⌜ leftBy r (now (tables .exit)) ≡ leaves (readingOf (waitingOf s ++ unpack (now (page .entry))) t) t ⌝ }
+    ensures { λ r. let t = now (tables .entry) in ⌜ leftBy r (now (tables .exit))
+        ≡ leaves (readingOf (waitingOf s ++ unpack (now (page .entry))) t) t ⌝ }
 {
     if s.waiting == 0 {
         if page.len() == 0 {
@@ -82,7 +84,8 @@ pub fn page_header(s: Session, page: &[u8], tables: &mut [u16]) -> Paged
 // A page on a running session: what waits comes first.
 pub fn page_running(s: Session, page: &[u8], tables: &mut [u16]) -> Paged
     requires { ⌜ Ready (s .dim) (s .darts) (standOf s) (cursorOf s) (now tables) (now page) ⌝ }
-    ensures { λ r. let t = now (tables .entry) in ⌜ leftBy r (now (tables .exit)) ≡ leaves (goOn s (unpack (now (page .entry))) t) t ⌝ }
+    ensures { λ r. let t = now (tables .entry) in ⌜ leftBy r (now (tables .exit))
+        ≡ leaves (goOn s (unpack (now (page .entry))) t) t ⌝ }
 {
     let stand = rules::stand_of(s);
     let c = Cursor {
@@ -97,7 +100,8 @@ pub fn page_running(s: Session, page: &[u8], tables: &mut [u16]) -> Paged
 // A byte on a complete session is 18.
 pub fn page_complete(s: Session, page: &[u8], tables: &mut [u16]) -> Paged
     requires { ⌜ Limits (s .dim) (s .darts) (now tables) ⌝ }
-    ensures { λ r. let t = now (tables .entry) in ⌜ leftBy r (now (tables .exit)) ≡ leaves (afterEnd (walkOf s t) (unpack (now (page .entry)))) t ⌝ }
+    ensures { λ r. let t = now (tables .entry) in ⌜ leftBy r (now (tables .exit))
+        ≡ leaves (afterEnd (walkOf s t) (unpack (now (page .entry)))) t ⌝ }
 {
     let stand = rules::stand_of(s);
     if page.len() == 0 {
@@ -116,7 +120,8 @@ pub fn page_complete(s: Session, page: &[u8], tables: &mut [u16]) -> Paged
 // A page on a fit session, by its state.
 pub fn page_fit(s: Session, page: &[u8], tables: &mut [u16]) -> Paged
     requires { ⌜ Rattle.rules.specs.Session.fit s (now tables) ≡ true ⌝ }
-    ensures { λ r. ⌜ leftBy r (now (tables .exit)) ≡ pageAs (s .state) s (unpack (now (page .entry))) (now (tables .entry)) ⌝ }
+    ensures { λ r. ⌜ leftBy r (now (tables .exit)) ≡ pageAs (s .state) s (unpack (now (page .entry)))
+        (now (tables .entry)) ⌝ }
 {
     let state = s.state;
     match state {
@@ -153,7 +158,8 @@ pub fn close_fit(s: Session, tables: &mut [u16]) -> Paged
 
 // The page call.
 pub fn page(s: Session, bytes: &[u8], tables: &mut [u16]) -> Paged
-    ensures { λ r. ⌜ leftBy r (now (tables .exit)) ≡ Rattle.rules.specs.Session.page s (now (bytes .entry)) (now (tables .entry)) ⌝ }
+    ensures { λ r. ⌜ leftBy r (now (tables .exit)) ≡ Rattle.rules.specs.Session.page s (now (bytes .entry))
+        (now (tables .entry)) ⌝ }
 {
     if fitness::fit(s, tables) {
         return page_fit(s, bytes, tables);
@@ -173,7 +179,8 @@ pub fn close(s: Session, tables: &mut [u16]) -> Paged
 
 // One whole read: a page of all the bytes on a new session, then closing. Such a session is fit, so that isn't tested.
 pub fn read(bytes: &[u8], tables: &mut [u16]) -> ReadAnswer
-    ensures { λ r. ⌜ (r ≡ readAnswer (now (bytes .entry)) (now (tables .entry))) × (now (tables .exit) ≡ readTables (now (bytes .entry)) (now (tables .entry))) ⌝ }
+    ensures { λ r. ⌜ (r ≡ readAnswer (now (bytes .entry)) (now (tables .entry)))
+        × (now (tables .exit) ≡ readTables (now (bytes .entry)) (now (tables .entry))) ⌝ }
 {
     let first = page_header(Session::open(), bytes, tables);
     let s = first.session;

@@ -90,7 +90,8 @@ pub fn refused(number: u32, place: u32) -> Paged
 // Refused by 11 to 18: the map's entries become the mark.
 pub fn spoiled(number: u32, dim: usize, darts: usize, stand: Stand, tables: &mut [u16]) -> Paged
     requires { ⌜ Limits dim darts (now tables) ⌝ }
-    ensures { λ r. let t = now (tables .entry) in ⌜ leftBy r (now (tables .exit)) ≡ leaves (reading.spoiled number (walkAt dim darts stand t)) t ⌝ }
+    ensures { λ r. let t = now (tables .entry) in ⌜ leftBy r (now (tables .exit))
+        ≡ leaves (reading.spoiled number (walkAt dim darts stand t)) t ⌝ }
 {
     let positions = stand.positions;
     let place = steps_of(positions);
@@ -101,7 +102,8 @@ pub fn spoiled(number: u32, dim: usize, darts: usize, stand: Stand, tables: &mut
 // Accepted so far: the record of the walk, and its answer.
 pub fn held(state: State, dim: usize, darts: usize, stand: Stand, waiting: u16, value: u16) -> Paged
     requires { ⌜ (dim ≤ 6) × (darts ≤ 4096) ⌝ }
-    ensures { λ r. ⌜ (r .session ≡ heldBy state dim darts stand waiting value) × (r .answer ≡ goodBy dim darts stand) ⌝ }
+    ensures { λ r. ⌜ (r .session ≡ heldBy state dim darts stand waiting value)
+        × (r .answer ≡ goodBy dim darts stand) ⌝ }
 {
     let positions = stand.positions;
     let count = stand.count;
@@ -168,7 +170,8 @@ pub fn finish(
     tables: &mut [u16],
 ) -> Paged
     requires { ⌜ Ends dim darts stand c (now tables) (now page) ⌝ }
-    ensures { λ r. let t = now (tables .entry) in ⌜ leftBy r (now (tables .exit)) ≡ leaves (reading.finish (walkAt dim darts stand t) (atHand c (now (page .entry)))) t ⌝ }
+    ensures { λ r. let t = now (tables .entry) in ⌜ leftBy r (now (tables .exit))
+        ≡ leaves (reading.finish (walkAt dim darts stand t) (atHand c (now (page .entry)))) t ⌝ }
 {
     let count = stand.count as usize;
     if count != darts {
@@ -189,7 +192,8 @@ pub fn finish(
 // Where a run leaves the session.
 pub fn settle(dim: usize, darts: usize, r: Ran, page: &[u8], tables: &mut [u16]) -> Paged
     requires { ⌜ Settles dim darts r (now tables) (now page) ⌝ }
-    ensures { λ p. let t = now (tables .entry) in ⌜ leftBy p (now (tables .exit)) ≡ leaves (reading.settle (toldRun dim darts r t (now (page .entry)))) t ⌝ }
+    ensures { λ p. let t = now (tables .entry) in ⌜ leftBy p (now (tables .exit))
+        ≡ leaves (reading.settle (toldRun dim darts r t (now (page .entry)))) t ⌝ }
 {
     let stand = r.stand;
     let cursor = r.cursor;
@@ -214,7 +218,8 @@ pub fn go_on(
     tables: &mut [u16],
 ) -> Paged
     requires { ⌜ Ready dim darts stand c (now tables) (now page) ⌝ }
-    ensures { λ r. let t = now (tables .entry) in ⌜ leftBy r (now (tables .exit)) ≡ leaves (reading.settle (runAll (walkAt dim darts stand t) (atHand c (now (page .entry))))) t ⌝ }
+    ensures { λ r. let t = now (tables .entry) in ⌜ leftBy r (now (tables .exit))
+        ≡ leaves (reading.settle (runAll (walkAt dim darts stand t) (atHand c (now (page .entry))))) t ⌝ }
 {
     let r = runs::run(tables, dim, darts, stand, c, page);
     settle(dim, darts, r, page, tables)

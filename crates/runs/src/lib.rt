@@ -75,8 +75,10 @@ pub fn asked(
     c: Cursor,
     page: &[u8],
 ) -> Turned
-    requires { ⌜ Ready dim darts (stand count (now positions)) c (now tables) (now page) × HeadCase dim darts count (now positions) (now tables) j (b .0) Partner.asked ⌝ }
-    ensures { λ r. ⌜ Turns dim darts count (now (positions .entry)) c (now (tables .entry)) (now (page .entry)) r (now (positions .exit)) (now (tables .exit)) ⌝ }
+    requires { ⌜ Ready dim darts (stand count (now positions)) c (now tables) (now page)
+        × HeadCase dim darts count (now positions) (now tables) j (b .0) Partner.asked ⌝ }
+    ensures { λ r. ⌜ Turns dim darts count (now (positions .entry)) c (now (tables .entry)) (now (page .entry)) r
+        (now (positions .exit)) (now (tables .exit)) ⌝ }
 {
     match c.take_symbol(page) {
         Taken::Short => Turned::Waits,
@@ -98,8 +100,10 @@ pub fn turn(
     c: Cursor,
     page: &[u8],
 ) -> Turned
-    requires { ⌜ Ready dim darts (stand count (now positions)) c (now tables) (now page) × Lowest dim count (now positions) j ⌝ }
-    ensures { λ r. ⌜ Turns dim darts count (now (positions .entry)) c (now (tables .entry)) (now (page .entry)) r (now (positions .exit)) (now (tables .exit)) ⌝ }
+    requires { ⌜ Ready dim darts (stand count (now positions)) c (now tables) (now page)
+        × Lowest dim count (now positions) j ⌝ }
+    ensures { λ r. ⌜ Turns dim darts count (now (positions .entry)) c (now (tables .entry)) (now (page .entry)) r
+        (now (positions .exit)) (now (tables .exit)) ⌝ }
 {
     let b = WalkNo(positions[j]);
     match steps::partner(tables, dim, darts, j, b) {
@@ -127,7 +131,8 @@ pub fn walk_on(
     page: &[u8],
 ) -> Halted
     requires { ⌜ Ready dim darts (stand count (now positions)) c (now tables) (now page) ⌝ }
-    ensures { λ r. ⌜ Runs dim darts (stand count (now (positions .entry))) c (now (tables .entry)) (now (page .entry)) (ranAt r (now (positions .exit))) (now (tables .exit)) ⌝ }
+    ensures { λ r. ⌜ Runs dim darts (stand count (now (positions .entry))) c (now (tables .entry)) (now (page .entry))
+        (ranAt r (now (positions .exit))) (now (tables .exit)) ⌝ }
 {
     let mut rank = 0;
     let mut numbered = count;

@@ -121,8 +121,10 @@ pub fn tied(
     b: WalkNo,
     e: WalkNo,
 )
-    requires { ⌜ Limits dim darts (now tables) × (length (now positions) ≡ 7) × (j ≤ dim) × (b .0 < darts) × (e .0 < darts) ⌝ }
-    ensures { λ _. ⌜ Tied dim darts (now (positions .entry)) (now (tables .entry)) j (b .0) (e .0) (now (positions .exit)) (now (tables .exit)) ⌝ }
+    requires { ⌜ Limits dim darts (now tables) × (length (now positions) ≡ 7) × (j ≤ dim) × (b .0 < darts)
+        × (e .0 < darts) ⌝ }
+    ensures { λ _. ⌜ Tied dim darts (now (positions .entry)) (now (tables .entry)) j (b .0) (e .0)
+        (now (positions .exit)) (now (tables .exit)) ⌝ }
 {
     join(tables, dim, darts, j, b, e);
     passed(positions, j, b);
@@ -140,7 +142,8 @@ pub fn by_deduction(
     e: WalkNo,
 ) -> Stepped
     requires { ⌜ HeadCase dim darts count (now positions) (now tables) j (b .0) (Partner.deduced (e .0)) ⌝ }
-    ensures { λ r. ⌜ Steps dim darts count (now (positions .entry)) (now (tables .entry)) (deducedStep j (b .0) (e .0)) r (now (positions .exit)) (now (tables .exit)) ⌝ }
+    ensures { λ r. ⌜ Steps dim darts count (now (positions .entry)) (now (tables .entry))
+        (deducedStep j (b .0) (e .0)) r (now (positions .exit)) (now (tables .exit)) ⌝ }
 {
     if known_link(tables, dim, darts, j, e).0 == Session::NO_LINK {
         tied(tables, positions, dim, darts, j, b, e);
@@ -162,7 +165,8 @@ pub fn by_symbol(
     s: Symbol,
 ) -> Stepped
     requires { ⌜ HeadCase dim darts count (now positions) (now tables) j (b .0) Partner.asked ⌝ }
-    ensures { λ r. ⌜ Steps dim darts count (now (positions .entry)) (now (tables .entry)) (symbolStep j (b .0) (toldSymbol s)) r (now (positions .exit)) (now (tables .exit)) ⌝ }
+    ensures { λ r. ⌜ Steps dim darts count (now (positions .entry)) (now (tables .entry))
+        (symbolStep j (b .0) (toldSymbol s)) r (now (positions .exit)) (now (tables .exit)) ⌝ }
 {
     match s {
         Symbol::Border => {

@@ -46,7 +46,8 @@ impl Cursor {
     // The cursor past so many bits more of the page.
     pub fn moved(self, bits: u32) -> Cursor
         requires { ⌜ (self .bit + bits < 2 ^ 32) × (self .at + (self .bit + bits) / 8 < 2 ^ 64) ⌝ }
-        ensures { λ r. ⌜ ((page : List ℕ) → self .at + (self .bit + bits) / 8 ≤ length page → PastPage bits self r page) ⌝ }
+        ensures { λ r. ⌜ ((page : List ℕ) → self .at + (self .bit + bits) / 8 ≤ length page
+            → PastPage bits self r page) ⌝ }
     {
         let to = self.bit + bits;
         Cursor {
@@ -197,7 +198,8 @@ impl Cursor {
     // All bits that are left, of which there are at most thirteen.
     pub fn rest(self, page: &[u8]) -> Waiting
         requires { ⌜ CursorFits self (now page) × (length (atHand self (now page)) ≤ 13) ⌝ }
-        ensures { λ r. let bits = atHand self (now (page .entry)) in ⌜ (r .bits ≡ length bits) × (r .value ≡ value bits) ⌝ }
+        ensures { λ r. let bits = atHand self (now (page .entry)) in
+            ⌜ (r .bits ≡ length bits) × (r .value ≡ value bits) ⌝ }
     {
         let mut c = self;
         let mut bits: u16 = 0;
