@@ -1,4 +1,5 @@
--- How the sets of refusal numbers lie to each other; only this file sees which numbers they hold. Rests on Lists.
+-- How the sets of refusal numbers lie to each other. Beside this file only the laws about where a number is given see which numbers a set holds.
+-- Rests on Lists.
 use Prim.Native.Nat.{ℕ}
 use mathlib.Core.Path.{_≡_, refl}
 use mathlib.Core.Logic.{_≢_, _⊎_, inl, inr}
@@ -35,14 +36,18 @@ pub after-wipes : wipes 18 ≡ true
 unfolding wipes inStep atEnd among
 after-wipes = refl
 
+or-any : (b : Bool) → (b || true) ≡ true
+or-any true = refl
+or-any false = refl
+
 -- each of these stays in the record
 pub wipes-fit : (nr p : ℕ) → wipes nr ≡ true → fitRefused nr p ≡ true
 unfolding fitRefused
-wipes-fit nr p e = or-right (atHeader nr && eqb p 0) (wipes nr) e
+wipes-fit nr p e = rw (e, or-any)
 
 pub header-fit : (nr : ℕ) → atHeader nr ≡ true → fitRefused nr 0 ≡ true
 unfolding fitRefused
-header-fit nr e = or-left (atHeader nr && eqb 0 0) (wipes nr) (rw e refl)
+header-fit nr e = rw e
 
 -- 0 is no refusal
 pub refused-some : (nr p : ℕ) → fitRefused nr p ≡ true → nr ≢ 0
