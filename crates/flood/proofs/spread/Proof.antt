@@ -46,7 +46,8 @@ returns : tie.Need-returns
 returns c =
     let f = c .before .before .before .before .before .before in
     let s = entry f in
-    spread-join (s .pre .3) (s .pre .5) (kept-runs (runs (s .args .low) (s .args .high)) (s .args .dim)) (f .spread-part .ensures) (c .before .before .spread-part2 .ensures)
+    spread-join (s .pre .3) (s .pre .5) (kept-runs (runs (s .args .low) (s .args .high)) (s .args .dim)) (f .spread-part .ensures)
+    (c .before .before .spread-part2 .ensures)
 
 pub spread-spec : {M : Type 1} → statement M
 spread-spec = tie.close (tie.spec mul-class slice-read-class sub-class spread-part-requires add-spread-part spread-part-requires-2 same-length returns)
