@@ -1,27 +1,30 @@
 /*
  * kanzhulet.h: the surface for C of a proved library for generalised maps.
  *
- * A map of dimension N (1 to 6) has n darts (1 to 4,096), 0 to n-1, and N+1 links a0..aN for each dart. Its tables are 16-bit
- * numbers: ai(d) stands at position i*n + d. ai(d) = d says that dart d is free at rank i. In tables that are being read,
- * KZ_NO_LINK says "no link yet".
+ * A map of dimension N (1 to 6) has n darts (1 to 4,096), 0 to n-1, and N+1 links a0..aN for each dart. Its tables are
+ * 16-bit numbers: ai(d) stands at position i*n + d. ai(d) = d says that dart d is free at rank i. In tables that are
+ * being read, KZ_NO_LINK says "no link yet".
  *
  *   kz_check    are these posted tables a valid connected map? numbers the darts from a root
  *   kz_write    any page of a map's stream, from any root
  *   kz_read     tables from one whole stream
  *   kz_open, kz_page, kz_close      the same, fed page by page through a session
  *   kz_report   cells of each rank, free links, orientable or not
+ *   kz_message  a refusal number in words
  *
- * Every call takes all values of its numbers and all contents of its rooms, ends, allocates nothing and keeps nothing between
- * calls. It returns the refusal number, 0 for an accepted call, and stores the whole answer in `answer`. What each call stores is
- * proved for every input; docs/PROMISES.md of the library says by which law.
+ * Every call takes all values of its numbers and all contents of its rooms, ends, allocates nothing and keeps nothing
+ * between calls. It returns the refusal number, 0 for an accepted call, and stores the whole answer in `answer`. What
+ * each call stores is proved for every input; docs/PROMISES.md of the library says by which law.
  *
  * What the caller guarantees, since no proof can see across the call:
- *   - each pointer is not null, is aligned for its type and points to as many elements as its length says, or as the array's size
- *     says; with length 0 nothing is read or written through it;
- *   - a room that the call may write (work, out, record, answer, and the tables of a reading) overlaps no other argument, and no
- *     other thread touches it during the call; a room that the call only reads is not written during the call.
+ *   - each pointer is not null, is aligned for its type and points to as many elements as its length says, or as the
+ *     array's size says; with length 0 nothing is read or written through it;
+ *   - a room that the call may write (work, out, record, answer, and the tables of a reading) overlaps no other
+ *     argument, and no other thread touches it during the call; a room that the call only reads is not written during
+ *     the call.
  *
- * Link with the archive that `rt staticlib exchange` writes. It is for x86-64 Linux and needs no other library.
+ * Link with libkanzhulet.a, as `pkg-config --cflags --libs kanzhulet` says. The library is for x86-64 Linux. It needs
+ * one function from outside, memset, which every C library has; a program linked without one has to bring its own.
  */
 #ifndef KANZHULET_H
 #define KANZHULET_H
@@ -32,6 +35,9 @@
 #ifdef __cplusplus
 extern "C" {
 #endif
+
+/* The library's version, as pkg-config and the Rust wrapper give it too. */
+#define KZ_VERSION "0.2.0"
 
 /* The limits, and the rooms that are long enough for every map. */
 enum {
@@ -64,7 +70,7 @@ enum {
     KZ_SHORT_TABLES = 3,  /* tables shorter than (N+1)*n                        0 */
     KZ_SHORT_WORK = 4,    /* work room shorter than 2n                          0 */
     KZ_ROOT = 5,          /* root not below n                                   0 */
-    KZ_ENTRY = 6,         /* an entry not below n                               its position in the tables, the first such */
+    KZ_ENTRY = 6,         /* an entry not below n                               its position, the first such */
     KZ_INVERSE = 7,       /* ai(ai(d)) is not d                                 the position of ai(d), the first such */
     KZ_MANIFOLD = 8,      /* ai, aj, ai, aj does not lead back (i+2 <= j)       the dart, first by pair, then dart */
     KZ_NOT_REACHED = 9,   /* a dart not reached from the root                   the least such dart */
@@ -114,8 +120,8 @@ uint32_t kz_write(uint64_t dim, uint64_t darts, uint64_t root, uint64_t start,
                   uint32_t answer[KZ_WRITE_ANSWER]);
 
 /*
- * One whole read: accepts exactly the streams that some valid connected map within the limits has from some root, and builds that
- * map under its walk numbering.
+ * One whole read: accepts exactly the streams that some valid connected map within the limits has from some root, and
+ * builds that map under its walk numbering.
  *
  * answer: number, place, steps done, N, n. On a refusal steps is the place, N and n are 0.
  * Order of tests: 1 and 3 once both header bytes are there; then 11 to 14 by step; at the end 15, 16, 17, 18.
@@ -129,8 +135,8 @@ uint32_t kz_read(const uint8_t *bytes, size_t bytes_length,
                  uint32_t answer[KZ_READ_ANSWER]);
 
 /*
- * A session reads one stream by pages of any sizes, none of them kept by the library. The caller lends the same record and the
- * same tables to each call and writes neither in between: open, any number of pages, close.
+ * A session reads one stream by pages of any sizes, none of them kept by the library. The caller lends the same record
+ * and the same tables to each call and writes neither in between: open, any number of pages, close.
  *
  * The record is fifteen numbers:
  *   [0]  state: 0 header, 1 running, 2 complete, 3 closed, 4 refused
@@ -145,15 +151,16 @@ void kz_open(uint32_t record[KZ_RECORD]);
 /*
  * A page of a stream. Every step is done that needs no bit beyond those seen.
  *
- * answer: number, place, steps done so far, N, n; 0 also where the session waits for more. N and n are 0 until a header is
- * accepted, and on a refusal, where steps is the place.
+ * answer: number, place, steps done so far, N, n; 0 also where the session waits for more. N and n are 0 until a header
+ *         is accepted, and on a refusal, where steps is the place.
  * Order of tests: 19, 20, then as kz_read but for 11. A refused session repeats its refusal.
- * tables: as for kz_read; unchanged by 19, 20 and a repeated refusal. A header that is accepted fills the first (N+1)*n with
- *         KZ_NO_LINK, then links are set.
- * record: after 19, 20 and a repeated refusal as given; after any other refusal state 4 with number and place, all else 0.
- * 19 is answered for every record that no session stands for (another state, a number above 65,535 in [3] to [14], a number or
- * place where the state is not 4) and for every session that is not fit: numbers out of range, or tables that are too short or do
- * not go with the record.
+ * tables: as for kz_read; unchanged by 19, 20 and a repeated refusal. A header that is accepted fills the first (N+1)*n
+ *         with KZ_NO_LINK, then links are set.
+ * record: after 19, 20 and a repeated refusal as given; after any other refusal state 4 with number and place, all else
+ *         0.
+ * 19 is answered for every record that no session stands for (another state, a number above 65,535 in [3] to [14], a
+ * number or place where the state is not 4) and for every session that is not fit: numbers out of range, or tables that
+ * are too short or do not go with the record.
  */
 uint32_t kz_page(uint32_t record[KZ_RECORD],
                  const uint8_t *bytes, size_t bytes_length,
@@ -163,10 +170,12 @@ uint32_t kz_page(uint32_t record[KZ_RECORD],
 /*
  * The end of a session's stream.
  *
- * answer: as for kz_page. Order of tests: 19, 20; a refused session repeats its refusal; 11 if the stream is cut; else 0, and the
- * state becomes closed. For a session that began with kz_open, answer and tables are those of one kz_read of all the bytes given.
+ * answer: as for kz_page. Order of tests: 19, 20; a refused session repeats its refusal; 11 if the stream is cut; else
+ *         0, and the state becomes closed. For a session that began with kz_open, answer and tables are those of one
+ *         kz_read of all the bytes given.
  * tables: a first 11 with a header accepted puts KZ_NO_LINK in the first (N+1)*n; else unchanged.
- * record: after 0 state 3, all else as it was; after a first 11 state 4 with number and place, all else 0; else as given.
+ * record: after 0 state 3, all else as it was; after a first 11 state 4 with number and place, all else 0; else as
+ *         given.
  */
 uint32_t kz_close(uint32_t record[KZ_RECORD],
                   uint16_t *tables, size_t tables_length,
@@ -175,9 +184,9 @@ uint32_t kz_close(uint32_t record[KZ_RECORD],
 /*
  * The cell report of a map.
  *
- * answer: number, place, the number of i-cells for i = 0 to 6 (0 past N), the number of free (rank, dart) pairs, and 1 if the map
- * is orientable, that is if the darts can be put in two classes so that every ai takes each dart to the other class (so a map with
- * a free dart is not). On a refusal all but number and place are 0.
+ * answer: number, place, the number of i-cells for i = 0 to 6 (0 past N), the number of free (rank, dart) pairs, and 1
+ *         if the map is orientable, that is if the darts can be put in two classes so that every ai takes each dart to
+ *         the other class (so a map with a free dart is not). On a refusal all but number and place are 0.
  * Order of tests: 1 to 4 and 6 to 9 as kz_check with root 0.
  * tables and work: as for kz_check; but after 0 the first 2n of the work room are KZ_NO_LINK.
  */
@@ -185,6 +194,13 @@ uint32_t kz_report(uint64_t dim, uint64_t darts,
                    const uint16_t *tables, size_t tables_length,
                    uint16_t *work, size_t work_length,
                    uint32_t answer[KZ_REPORT_ANSWER]);
+
+/*
+ * A refusal number in words, and in brackets what the place is that goes with it: kz_message(11) is "the stream ended
+ * early (place: the steps done)". Every number has a text, 0 and those that are no refusal's too. The text is the
+ * library's own and stays; it is never null. This function is plain C, outside the proofs.
+ */
+const char *kz_message(uint32_t number);
 
 #ifdef __cplusplus
 }

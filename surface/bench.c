@@ -13,9 +13,10 @@
  *
  * A measurement above its target says so at the end of its line.
  *
- * CALL/1024 is a call by pages of 1 KiB until the stream's end. A page of the writer walks the whole map, so its steps are those of all
- * pages together. The two programs take turns; before each turn the rooms are filled alike, outside the time taken. A time is the
- * shortest of many turns. The exit status is 1 if a result differs, and a missed target does not change it.
+ * CALL/1024 is a call by pages of 1 KiB until the stream's end. A page of the writer walks the whole map, so its steps
+ * are those of all pages together. The two programs take turns; before each turn the rooms are filled alike, outside
+ * the time taken. A time is the shortest of many turns. The exit status is 1 if a result differs, and a missed target
+ * does not change it.
  */
 #define _POSIX_C_SOURCE 199309L
 #include "programs.h"
@@ -51,7 +52,8 @@ static void write_pages(const struct program *p, struct side *s, const struct jo
 {
     size_t start;
     for (start = 0; start < job->length; start += size)
-        p->write(job->m.dim, job->m.darts, 0, start, posted, job->entries, s->work, 2 * job->m.darts, s->out, size, s->answer);
+        p->write(job->m.dim, job->m.darts, 0, start, posted, job->entries, s->work, 2 * job->m.darts, s->out, size,
+                 s->answer);
 }
 
 static void read_pages(const struct program *p, struct side *s, const struct job *job, size_t size)
@@ -70,7 +72,9 @@ static void make_call(int call, const struct program *p, struct side *s, const s
     uint64_t dim = job->m.dim, darts = job->m.darts;
     switch (call) {
     case CHECK_MAP: p->check(dim, darts, 0, posted, job->entries, s->work, 2 * darts, s->answer); break;
-    case WRITE: p->write(dim, darts, 0, 0, posted, job->entries, s->work, 2 * darts, s->out, KZ_MAX_STREAM, s->answer); break;
+    case WRITE:
+        p->write(dim, darts, 0, 0, posted, job->entries, s->work, 2 * darts, s->out, KZ_MAX_STREAM, s->answer);
+        break;
     case WRITE_PAGES: write_pages(p, s, job, PAGE_SIZE); break;
     case READ: p->read(stream, job->length, s->tables, job->entries, s->answer); break;
     case READ_PAGES: read_pages(p, s, job, PAGE_SIZE); break;
@@ -171,16 +175,16 @@ static void bench_kind(const struct kind *kind)
     for (call = 0; call < CALLS; call++) {
         for (k = 0; k < PROGRAMS; k++)
             growth[k] = cost[call][2][k] / cost[call][1][k];
-        printf("cost %s %u %s 4096/512 %.2f reference %.2f", call_names[call], (unsigned)kind->dim, kind->name, growth[LIBRARY],
-               growth[REFERENCE]);
+        printf("cost %s %u %s 4096/512 %.2f reference %.2f", call_names[call], (unsigned)kind->dim, kind->name,
+               growth[LIBRARY], growth[REFERENCE]);
         against(growth[LIBRARY], most_growth);
     }
 }
 
 /* The longest stream. */
 
-/* The time that the pages of a session and its end take to find the session fit: before each of them an empty page is given, which does
-   nothing else. */
+/* The time that the pages of a session and its end take to find the session fit: before each of them an empty page is
+   given, which does nothing else. */
 static double fitness_time(const struct job *job)
 {
     struct side *s = &sides[LIBRARY];
@@ -192,13 +196,14 @@ static double fitness_time(const struct job *job)
         kz_page(s->session.record, stream, 0, s->tables, job->entries, s->answer);
         sum += now() - began;
         left = at < job->length ? job->length - at : 0;
-        kz_page(s->session.record, stream + at, left < SMALL_PAGE ? left : SMALL_PAGE, s->tables, job->entries, s->answer);
+        kz_page(s->session.record, stream + at, left < SMALL_PAGE ? left : SMALL_PAGE, s->tables, job->entries,
+                s->answer);
     }
     return sum;
 }
 
-static double time_of_pages(void (*pages)(const struct program *, struct side *, const struct job *, size_t), int program,
-                            const struct job *job)
+static double time_of_pages(void (*pages)(const struct program *, struct side *, const struct job *, size_t),
+                            int program, const struct job *job)
 {
     double began;
     prepare(&sides[program]);
@@ -223,8 +228,8 @@ static void bench_longest(const struct kind *kind)
             keep_least(&written[k], time_of_pages(write_pages, k, &job));
     }
     times = (paged[LIBRARY] - fitness) / whole;
-    printf("longest stream %u bytes in %u pages of %d\n", (unsigned)job.length, (unsigned)(job.length + SMALL_PAGE - 1) / SMALL_PAGE,
-           SMALL_PAGE);
+    printf("longest stream %u bytes in %u pages of %d\n", (unsigned)job.length,
+           (unsigned)(job.length + SMALL_PAGE - 1) / SMALL_PAGE, SMALL_PAGE);
     printf("longest read/64 whole %.0f us paged %.0f us fitness %.0f us (paged - fitness) / whole %.2f", whole / 1000,
            paged[LIBRARY] / 1000, fitness / 1000, times);
     against(times, most_paged);

@@ -1,6 +1,6 @@
 /*
- * The maps of the benchmark, each for 64, 512 and 4,096 darts: with many deductions (squares, cubes, products of paths), with few
- * (pairs) and with none (lines). They are posted as maps.h says.
+ * The maps of the benchmark, each for 64, 512 and 4,096 darts: with many deductions (squares, cubes, products of
+ * paths), with few (pairs) and with none (lines). They are posted as maps.h says.
  */
 #ifndef SURFACE_BENCH_MAPS_H
 #define SURFACE_BENCH_MAPS_H
@@ -10,7 +10,8 @@
 enum { SIZES = 3 };
 static const uint64_t sizes[SIZES] = { 64, 512, 4096 };
 
-/* Ranks below dim-1 are free, so no link can be deduced; the last two ranks are the even and the odd involution of one path. */
+/* Ranks below dim-1 are free, so no link can be deduced; the last two ranks are the even and the odd involution of one
+   path. */
 static struct map post_line(uint64_t dim, uint64_t darts)
 {
     struct map m = post_free(dim, darts);
@@ -51,7 +52,8 @@ static void tie_cube(struct map m, const uint64_t wide[3], uint64_t c, unsigned 
         }
 }
 
-/* A flat cell of darts `first` on: two squares back to back. The front one lies on the outer side of cube c along the third axis. */
+/* A flat cell of darts `first` on: two squares back to back. The front one lies on the outer side of cube c along the
+   third axis. */
 static void tie_flat(struct map m, uint64_t first, uint64_t c, unsigned orders[120][5])
 {
     uint64_t corner, p, back, q = 0, d;

@@ -1,44 +1,26 @@
-# Read by surface/test, surface/vectors and surface/bench: the archive, and how a C program of this folder is built
-# with it and run.
+# Read by surface/test, surface/vectors and surface/bench: the library, and how a C program of this folder is built with
+# it and run.
 #
-# The archive is made by `rt staticlib exchange` where there is none or a crate is younger; if KANZHULET_LIB names a
-# folder, the libexchange.a in it is taken instead. The archive is for x86-64. There the system's C compiler is used,
-# or the kit's if there is none, and the programs run as they are. On another processor the kit's compiler builds them
-# for x86-64 and the kit's emulator runs them.
+# The library is proved and built where it is not there or a crate that it is made of has changed (prove.sh); if
+# KANZHULET_LIB names a folder, the libkanzhulet.a in it is taken instead. It is for x86-64. There the system's C
+# compiler is used, or the kit's if there is none, and the programs run as they are. On another processor the kit's
+# compiler builds them for x86-64 and the kit's emulator runs them.
 
 root=$(cd "$(dirname "${BASH_SOURCE[0]}")/.." && pwd -P)
 build=$root/target/surface
-machine=$(uname -m)
 strict=(-std=c11 -Wall -Wextra -Wpedantic -Werror)
 
 say() { echo "surface: $*"; }
 stop() { say "$*" >&2; exit 1; }
+source "$root/surface/prove.sh"
 
-# The kit's compiler, linker, emulator and C library, found beside the rt command.
-find_kit() {
-  local rt
-  rt=$(command -v rt) || stop "the rt command is not on the path"
-  rt=$(readlink -f "$rt")
-  kit=$(cd "$(dirname "$rt")/.." && pwd -P)/on/$machine/toolchain
-  [ -x "$kit/bin/clang" ] || stop "the kit has no compiler for this machine"
-}
-
-# Is an archive missing, or older than something that is proved?
-stale() {
-  [ ! -f "$1" ] || [ -n "$(find "$root/crates" "$root/crates.txt" -newer "$1" -print -quit)" ]
-}
-
-find_archive() {
+find_library() {
   if [ -n "${KANZHULET_LIB:-}" ]; then
-    lib=$(cd "$KANZHULET_LIB" && pwd -P)
+    library=$(cd "$KANZHULET_LIB" && pwd -P)/libkanzhulet.a
+    [ -f "$library" ] || stop "there is no libkanzhulet.a in $KANZHULET_LIB"
   else
-    lib=$root/target/staticlib
-    if stale "$lib/libexchange.a"; then
-      (cd "$root" && rt staticlib exchange)
-    fi
+    bring_library
   fi
-  archive=$lib/libexchange.a
-  [ -f "$archive" ] || stop "there is no libexchange.a in $lib"
 }
 
 find_compiler() {
@@ -50,52 +32,68 @@ find_compiler() {
   fi
 }
 
+# compile FILE OBJECT FLAG...: a C file to an object for x86-64.
+compile() {
+  local file=$1 object=$2
+  shift 2
+  if [ "$by" = system ]; then
+    cc "${strict[@]}" "$@" -c "$file" -o "$object"
+  else
+    "$kit/bin/clang" --target=x86_64-unknown-linux-gnu "${strict[@]}" -fPIE -nostdinc \
+      -isystem "$root/surface/headers" "$@" -c "$file" -o "$object"
+  fi
+}
+
+# link_with PROGRAM FILE...: objects, archives and flags to a program for x86-64 with the C library.
+link_with() {
+  local program=$1
+  shift
+  if [ "$by" = system ]; then
+    cc "$@" -o "$program"
+  else
+    "$kit/bin/ld.lld" -pie --dynamic-linker /lib64/ld-linux-x86-64.so.2 -o "$program" \
+      "$kit/lib/Scrt1.o" "$kit/lib/crti.o" "$kit/lib/crtbeginS.o" "$@" "$kit/lib/libc.so.6" \
+      "$kit/lib/libc_nonshared.a" "$kit/lib/libgcc.a" "$kit/lib/crtendS.o" "$kit/lib/crtn.o"
+  fi
+}
+
 # object NAME FLAG...: surface/NAME.c to target/surface/NAME.o.
 object() {
   local name=$1
   shift
   mkdir -p "$build"
-  if [ "$by" = system ]; then
-    cc "${strict[@]}" "$@" -I"$root/include" -c "$root/surface/$name.c" -o "$build/$name.o"
-  else
-    "$kit/bin/clang" --target=x86_64-unknown-linux-gnu "${strict[@]}" "$@" -fPIE -nostdinc -isystem "$root/surface/headers" \
-      -I"$root/include" -c "$root/surface/$name.c" -o "$build/$name.o"
-  fi
+  compile "$root/surface/$name.c" "$build/$name.o" "$@" -I"$root/include"
 }
 
-# link NAME...: the objects of these names with the archive, to target/surface/ and the first name. The kit's linker gets kit_options.
-kit_options=()
+# link NAME...: the objects of these names with the library, to target/surface/ and the first name.
 link() {
   local name objects=()
   for name in "$@"; do
     objects+=("$build/$name.o")
   done
-  if [ "$by" = system ]; then
-    cc "${objects[@]}" "$archive" -o "$build/$1"
-  else
-    "$kit/bin/ld.lld" -pie --dynamic-linker /lib64/ld-linux-x86-64.so.2 ${kit_options[@]+"${kit_options[@]}"} -o "$build/$1" \
-      "$kit/lib/Scrt1.o" "$kit/lib/crti.o" "$kit/lib/crtbeginS.o" "${objects[@]}" "$archive" "$kit/lib/libc.so.6" \
-      "$kit/lib/libc_nonshared.a" "$kit/lib/libgcc.a" "$kit/lib/crtendS.o" "$kit/lib/crtn.o"
-  fi
+  link_with "$build/$1" "${objects[@]}" ${link_options[@]+"${link_options[@]}"} "$library"
 }
+link_options=()
 
 # run NAME WORD...: the program target/surface/NAME.
-run() {
-  local name=$1 emulator=()
-  shift
+run() { run_at "$build/$1" "${@:2}"; }
+
+# run_at PROGRAM WORD...
+run_at() {
+  local emulator=()
   if [ "$by" = system ]; then
-    "$build/$name" "$@"
+    "$@"
     return
   fi
   [ "$machine" = x86_64 ] || emulator=("$kit/bin/qemu-x86_64")
-  ${emulator[@]+"${emulator[@]}"} "$kit/lib/ld-linux-x86-64.so.2" --library-path "$kit/lib" "$build/$name" "$@"
+  ${emulator[@]+"${emulator[@]}"} "$kit/lib/ld-linux-x86-64.so.2" --library-path "$kit/lib" "$@"
 }
 
 # build_bench: the benchmark with the reference, which is built as the archive is: -O3, a section for each function.
 build_bench() {
   object reference -O3 -ffunction-sections
   object bench -O3 -Wno-unused-function
-  [ "$machine" = x86_64 ] || kit_options=(-T "$root/surface/apart.ld")
+  [ "$machine" = x86_64 ] || link_options=(-T "$root/surface/apart.ld")
   link bench reference
-  kit_options=()
+  link_options=()
 }

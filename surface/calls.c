@@ -1,11 +1,12 @@
 /*
- * Tests of the surface for C: every call of kanzhulet.h, every refusal number, rooms between guards. rooms.h checks what holds of every
- * call; the cases here say which answer an input gets. The last line printed is "surface: N checks, 0 failed", and the exit status is 1
- * if any check failed.
+ * Tests of the surface for C: every call of kanzhulet.h, every refusal number, rooms between guards. rooms.h checks
+ * what holds of every call; the cases here say which answer an input gets. The last line printed is "surface: N checks,
+ * 0 failed", and the exit status is 1 if any check failed.
  */
 #include "kanzhulet.h"
 #include "rooms.h"
 #include "maps.h"
+#include <string.h>
 
 #define MOST (~(uint64_t)0)
 #define WIDE ((uint64_t)1 << 32) /* 0 for a call that would drop the upper half */
@@ -57,7 +58,8 @@ static const struct reading readings[] = {
     { "lone dart in 6", "60 00 AA A8", 7, 0, 0, 6, 1 },
     { "no fill, a byte after", "30 00 AA 00", 4, 18, 4, 0, 0 },
     { "last fill bit", "60 00 AA A9", 7, 17, 7, 0, 0 },
-    /* A named dart: judged once its twelve bits are in; not the dart itself (P9), not one without number, not one that is linked. */
+    /* A named dart: judged once its twelve bits are in; not the dart itself (P9), not one without number, not one that
+       is linked. */
     { "index not all there", "10 01 FF", 4, 11, 0, 0, 0 },
     { "index without number", "10 02 60 0A", 6, 12, 2, 0, 0 },
     { "index linked already", "10 03 18 00 00", 8, 12, 5, 0, 0 },
@@ -145,7 +147,8 @@ static void expect_built(const char *hex, size_t entries, const uint16_t *tables
     CHECK(same_entries(built, tables, entries));
 }
 
-/* P3's tables tell a walk that goes back to queue 0 after a new dart from one that does not; its answer and cells do not. */
+/* P3's tables tell a walk that goes back to queue 0 after a new dart from one that does not; its answer and cells do
+   not. */
 static void read_known_tables(void)
 {
     static const uint16_t p1[2] = { 0, 0 };
@@ -162,8 +165,8 @@ static void read_known_tables(void)
 static uint32_t away_record[KZ_RECORD];
 static uint16_t away_tables[TABLES];
 
-/* A session's fifteen numbers and its tables put away, another stream read in the same rooms, and both taken up again: nothing else
-   belongs to a session. */
+/* A session's fifteen numbers and its tables put away, another stream read in the same rooms, and both taken up again:
+   nothing else belongs to a session. */
 static void carry_elsewhere(void)
 {
     size_t k, room = LENGTH(built);
@@ -439,8 +442,8 @@ static void lent_refusals_and_closed_records(void)
     EXPECT(call_close(), KZ_CLOSED, 0);
 }
 
-/* A fit session that no reading could leave is carried on by the same rules: here a0 is not its own inverse, and dimension 1 has no
-   pair of ranks that the end could test. */
+/* A fit session that no reading could leave is carried on by the same rules: here a0 is not its own inverse, and
+   dimension 1 has no pair of ranks that the end could test. */
 static void lent_session_goes_on(void)
 {
     static const uint32_t numbers[KZ_RECORD] = { 1, 0, 0, 1, 2, 2, 2, 1 };
@@ -719,8 +722,8 @@ static void feed_stream_by(size_t size, size_t length, size_t room)
         feed_cut_everywhere(stream, length, room);
 }
 
-/* Check, write, read back; then the same by pages, of sizes that do not make too many of them. Afterwards `stream` and `built` hold the
-   stream and its tables. The stream's length. */
+/* Check, write, read back; then the same by pages, of sizes that do not make too many of them. Afterwards `stream` and
+   `built` hold the stream and its tables. The stream's length. */
 static size_t there_and_back(struct map m, uint64_t root)
 {
     static const size_t sizes[] = { 1, 2, 3, 7, 64, 5000 };
@@ -743,7 +746,8 @@ static size_t there_and_back(struct map m, uint64_t root)
     return length;
 }
 
-/* Posts the tables that were built: from dart 0 they have the same stream, and the walk numbers the darts as they stand. */
+/* Posts the tables that were built: from dart 0 they have the same stream, and the walk numbers the darts as they
+   stand. */
 static void post_what_was_built(struct map m, size_t length)
 {
     static uint8_t first[KZ_MAX_STREAM];
@@ -823,6 +827,20 @@ static void longest_stream(void)
     EXPECT_LAST(KZ_SHORT_TABLES, 0);
 }
 
+/* Every number has a text of its own, with what its place is; all that are no refusal's share one. */
+static void every_number_has_a_text(void)
+{
+    const uint32_t none = KZ_CLOSED + 1;
+    uint32_t number, other;
+    what = "the texts of the numbers";
+    for (number = 0; number <= none; number++)
+        for (other = 0; other < number; other++)
+            CHECK(strcmp(kz_message(number), kz_message(other)) != 0);
+    for (number = KZ_ACCEPTED + 1; number <= KZ_CLOSED; number++)
+        CHECK(strstr(kz_message(number), " (place: ") != NULL);
+    CHECK(strcmp(kz_message(none), kz_message(~(uint32_t)0)) == 0);
+}
+
 static void every_number_was_seen(void)
 {
     int k;
@@ -856,6 +874,7 @@ int main(void)
     samples_there_and_back();
     as_many_darts_as_allowed();
     longest_stream();
+    every_number_has_a_text();
     every_number_was_seen();
     printf("surface: %lu checks, %lu failed\n", checks, failures);
     return failures != 0;

@@ -1,6 +1,6 @@
 /*
- * The map of one square, there and back: posted as tables, checked, handed out in pages of four bytes, read back page by page, and
- * reported.
+ * The map of one square, there and back: posted as tables, checked, handed out in pages of four bytes, read back page
+ * by page, and reported.
  */
 #include "kanzhulet.h"
 #include <stdio.h>

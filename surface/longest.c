@@ -1,6 +1,6 @@
 /*
- * The longest stream and its listing, for a test of the listing program over several pages: N 6 and n 4,096, a0 to a4 one pairing, a5
- * and a6 a path over the pairs.
+ * The longest stream and its listing, for a test of the listing program over several pages: N 6 and n 4,096, a0 to a4
+ * one pairing, a5 and a6 a path over the pairs.
  *
  *   longest stream    its bytes
  *   longest text      what the listing program is to print for them
@@ -39,7 +39,8 @@ static void print_stream(uint32_t length)
 static int print_text(uint32_t length)
 {
     uint32_t read[KZ_READ_ANSWER], report[KZ_REPORT_ANSWER];
-    if (kz_read(stream, length, built, ENTRIES, read) != 0 || kz_report(DIM, DARTS, built, ENTRIES, work, 2 * DARTS, report) != 0)
+    if (kz_read(stream, length, built, ENTRIES, read) != 0 ||
+        kz_report(DIM, DARTS, built, ENTRIES, work, 2 * DARTS, report) != 0)
         return 1;
     printf("dimension %u darts %u\n", (unsigned)read[3], (unsigned)read[4]);
     for (unsigned d = 0; d < DARTS; d++) {

@@ -1,6 +1,7 @@
 /*
- * Maps of dimension 1 to 6 by simple constructions, with the cells that geometry gives them. Each function posts its map: it lends
- * `posted` with SPARE entries more than the map has, all of which say KZ_NO_LINK, and `work` with SPARE entries more than 2n.
+ * Maps of dimension 1 to 6 by simple constructions, with the cells that geometry gives them. Each function posts its
+ * map: it lends `posted` with SPARE entries more than the map has, all of which say KZ_NO_LINK, and `work` with SPARE
+ * entries more than 2n.
  */
 #ifndef SURFACE_MAPS_H
 #define SURFACE_MAPS_H
@@ -27,8 +28,8 @@ static void tie(struct map m, uint64_t rank, uint64_t d, uint64_t e)
     posted[rank * m.darts + e] = (uint16_t)d;
 }
 
-/* Where place x of a path of this length goes: the even involution pairs 0-1, 2-3 and so on, the odd one 1-2, 3-4 and so on. An end
-   without partner stays; for x = 0 the place before it wraps round to one past every path. */
+/* Where place x of a path of this length goes: the even involution pairs 0-1, 2-3 and so on, the odd one 1-2, 3-4 and
+   so on. An end without partner stays; for x = 0 the place before it wraps round to one past every path. */
 static uint64_t along(uint64_t x, uint64_t length, uint64_t odd)
 {
     uint64_t y = (x + odd) % 2 == 0 ? x + 1 : x - 1;
@@ -72,7 +73,8 @@ static struct map post_squares(uint64_t squares)
     return m;
 }
 
-/* Joins side s of square q to side s+2 of square r. Both run round their squares, so the ends meet crosswise unless one is twisted. */
+/* Joins side s of square q to side s+2 of square r. Both run round their squares, so the ends meet crosswise unless one
+   is twisted. */
 static void join_sides(struct map m, uint64_t q, uint64_t r, uint64_t s, uint64_t twisted)
 {
     uint64_t here = 8 * q + 2 * s, there = 8 * r + 2 * ((s + 2) % 4);
@@ -131,8 +133,9 @@ static uint64_t exchanged(unsigned orders[120][5], uint64_t dim, uint64_t p, uin
 }
 
 /*
- * A box of dimension 1 to 5, alone or wrapped: each of its sides joined to the opposite one. A dart is a corner (one bit for each axis)
- * and an order of the axes: the edge of the dart at that corner runs along the first axis, the face along the first two, and so on.
+ * A box of dimension 1 to 5, alone or wrapped: each of its sides joined to the opposite one. A dart is a corner (one
+ * bit for each axis) and an order of the axes: the edge of the dart at that corner runs along the first axis, the face
+ * along the first two, and so on.
  */
 static struct map post_box(uint64_t dim, int wrapped)
 {
@@ -161,8 +164,8 @@ static struct map post_bits(uint64_t dim)
     return m;
 }
 
-/* A dart is a place in a grid of four directions. Along direction k, rank 2k is the even involution of a path and rank 2k+1 the odd one;
-   the fourth direction has the one rank 6. */
+/* A dart is a place in a grid of four directions. Along direction k, rank 2k is the even involution of a path and rank
+   2k+1 the odd one; the fourth direction has the one rank 6. */
 static struct map post_paths(const uint64_t length[4])
 {
     struct map m = post_free(6, length[0] * length[1] * length[2] * length[3]);
@@ -179,8 +182,9 @@ static struct map post_paths(const uint64_t length[4])
     return m;
 }
 
-/* The map of dimension 6 whose stream is longest for its even number of darts. Ranks 0 to 4 tie the darts of each pair 2k, 2k+1. Ranks
-   5 and 6 are the even and the odd involution of a path over the pairs, and a pair without partner is tied within. */
+/* The map of dimension 6 whose stream is longest for its even number of darts. Ranks 0 to 4 tie the darts of each pair
+   2k, 2k+1. Ranks 5 and 6 are the even and the odd involution of a path over the pairs, and a pair without partner is
+   tied within. */
 static struct map post_pairs(uint64_t darts)
 {
     struct map m = post_free(6, darts);

@@ -1,6 +1,6 @@
 /*
- * The library and the reference behind one table of calls, with rooms of the same size for each, and the comparisons: the same input
- * given to both, then every room looked through. The first difference is told and ends the program.
+ * The library and the reference behind one table of calls, with rooms of the same size for each, and the comparisons:
+ * the same input given to both, then every room looked through. The first difference is told and ends the program.
  */
 #ifndef SURFACE_PROGRAMS_H
 #define SURFACE_PROGRAMS_H
@@ -17,8 +17,8 @@ union session {
 
 struct program {
     uint32_t (*check)(uint64_t, uint64_t, uint64_t, const uint16_t *, size_t, uint16_t *, size_t, uint32_t *);
-    uint32_t (*write)(uint64_t, uint64_t, uint64_t, uint64_t, const uint16_t *, size_t, uint16_t *, size_t, uint8_t *, size_t,
-                      uint32_t *);
+    uint32_t (*write)(uint64_t, uint64_t, uint64_t, uint64_t, const uint16_t *, size_t, uint16_t *, size_t, uint8_t *,
+                      size_t, uint32_t *);
     uint32_t (*read)(const uint8_t *, size_t, uint16_t *, size_t, uint32_t *);
     void (*open)(union session *);
     uint32_t (*page)(union session *, const uint8_t *, size_t, uint16_t *, size_t, uint32_t *);
@@ -27,7 +27,8 @@ struct program {
 };
 
 static void library_open(union session *s) { kz_open(s->record); }
-static uint32_t library_page(union session *s, const uint8_t *bytes, size_t length, uint16_t *tables, size_t room, uint32_t *a)
+static uint32_t library_page(union session *s, const uint8_t *bytes, size_t length, uint16_t *tables, size_t room,
+                             uint32_t *a)
 {
     return kz_page(s->record, bytes, length, tables, room, a);
 }
@@ -37,7 +38,8 @@ static uint32_t library_close(union session *s, uint16_t *tables, size_t room, u
 }
 
 static void reference_open(union session *s) { ref_open(&s->queues); }
-static uint32_t reference_page(union session *s, const uint8_t *bytes, size_t length, uint16_t *tables, size_t room, uint32_t *a)
+static uint32_t reference_page(union session *s, const uint8_t *bytes, size_t length, uint16_t *tables, size_t room,
+                               uint32_t *a)
 {
     return ref_page(&s->queues, bytes, length, tables, room, a);
 }
@@ -156,8 +158,8 @@ static void compare_write(struct posting p, uint64_t start, size_t size)
     int k;
     prepare_both();
     for (k = 0; k < PROGRAMS; k++)
-        programs[k].write(p.m.dim, p.m.darts, p.root, start, posted, p.tables, sides[k].work, p.work, sides[k].out, size,
-                          sides[k].answer);
+        programs[k].write(p.m.dim, p.m.darts, p.root, start, posted, p.tables, sides[k].work, p.work, sides[k].out,
+                          size, sides[k].answer);
     same_sides("write");
 }
 
@@ -247,7 +249,8 @@ static uint32_t dice(uint32_t sides_of_it)
     return state % sides_of_it;
 }
 
-/* Ties two darts at some rank, and the partners they had each to itself: still its own inverse, but perhaps not a map any more. */
+/* Ties two darts at some rank, and the partners they had each to itself: still its own inverse, but perhaps not a map
+   any more. */
 static void retie(struct map m)
 {
     uint64_t n = m.darts, i = dice((uint32_t)m.dim + 1), d = dice((uint32_t)n), e = dice((uint32_t)n);

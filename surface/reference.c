@@ -287,15 +287,16 @@ static struct fault check_posting(const struct posting *p, struct stream *stream
     return no_fault;
 }
 
-uint32_t ref_check(uint64_t dim, uint64_t darts, uint64_t root, const uint16_t *tables, size_t tables_length, uint16_t *work,
-                   size_t work_length, uint32_t *answer)
+uint32_t ref_check(uint64_t dim, uint64_t darts, uint64_t root, const uint16_t *tables, size_t tables_length,
+                   uint16_t *work, size_t work_length, uint32_t *answer)
 {
     struct posting posting = { dim, darts, root, tables, tables_length, work, work_length };
     return answer_fault(answer, CHECK_ANSWER, check_posting(&posting, NULL));
 }
 
-uint32_t ref_write(uint64_t dim, uint64_t darts, uint64_t root, uint64_t start, const uint16_t *tables, size_t tables_length,
-                   uint16_t *work, size_t work_length, uint8_t *out, size_t out_length, uint32_t *answer)
+uint32_t ref_write(uint64_t dim, uint64_t darts, uint64_t root, uint64_t start, const uint16_t *tables,
+                   size_t tables_length, uint16_t *work, size_t work_length, uint8_t *out, size_t out_length,
+                   uint32_t *answer)
 {
     static struct stream stream;
     struct posting posting = { dim, darts, root, tables, tables_length, work, work_length };
@@ -365,7 +366,8 @@ static uint32_t read_named(struct ref_session *session, const uint16_t *aj, uint
 }
 
 /* The symbol for aj(b). */
-static uint32_t read_symbol(struct ref_session *session, struct page *page, const uint16_t *aj, uint32_t b, uint32_t *partner)
+static uint32_t read_symbol(struct ref_session *session, struct page *page, const uint16_t *aj, uint32_t b,
+                            uint32_t *partner)
 {
     if (!have_bits(session, page, 1))
         return WAITS;
@@ -384,8 +386,8 @@ static uint32_t read_symbol(struct ref_session *session, struct page *page, cons
 }
 
 /* The partner aj(b) that a lower rank gives or else a symbol. */
-static uint32_t find_partner(struct ref_session *session, struct page *page, const uint16_t *tables, uint32_t j, uint32_t b,
-                             uint32_t *partner)
+static uint32_t find_partner(struct ref_session *session, struct page *page, const uint16_t *tables, uint32_t j,
+                             uint32_t b, uint32_t *partner)
 {
     const uint16_t *aj = tables + j * session->darts;
     for (uint32_t i = 0; i + 2 <= j; i++) {
@@ -498,8 +500,8 @@ void ref_open(struct ref_session *session)
     empty_queues(session->queues);
 }
 
-uint32_t ref_page(struct ref_session *session, const uint8_t *bytes, size_t bytes_length, uint16_t *tables, size_t tables_length,
-                  uint32_t *answer)
+uint32_t ref_page(struct ref_session *session, const uint8_t *bytes, size_t bytes_length, uint16_t *tables,
+                  size_t tables_length, uint32_t *answer)
 {
     struct page page = { bytes, bytes_length, 0 };
     uint32_t outcome = DONE;
@@ -598,8 +600,8 @@ static uint32_t count_cells(const struct map *map, uint32_t rank, struct flood *
     return cells;
 }
 
-/* Marks the darts reached from dart 0 with 1 and 2, a new dart with the other mark than the dart it is reached from; 1 if then every
-   link of a marked dart leads to the other mark. */
+/* Marks the darts reached from dart 0 with 1 and 2, a new dart with the other mark than the dart it is reached from; 1
+   if then every link of a marked dart leads to the other mark. */
 static uint32_t two_classes(const struct map *map, struct flood *flood)
 {
     uint32_t apart = 1;
@@ -635,8 +637,8 @@ static struct fault test_reached(const struct flood *flood, uint32_t darts)
     return no_fault;
 }
 
-uint32_t ref_report(uint64_t dim, uint64_t darts, const uint16_t *tables, size_t tables_length, uint16_t *work, size_t work_length,
-                    uint32_t *answer)
+uint32_t ref_report(uint64_t dim, uint64_t darts, const uint16_t *tables, size_t tables_length, uint16_t *work,
+                    size_t work_length, uint32_t *answer)
 {
     static struct flood flood;
     struct fault fault = test_numbers(dim, darts, 0, tables_length, work_length);

@@ -1,10 +1,12 @@
 /*
- * A reference of the requirements in plain C: the same answers as the calls of kanzhulet.h, written on its own from the documents, with
- * the queues and the table of known links that they speak of. It is what the benchmark holds the library against.
+ * A reference of the requirements in plain C: the same answers as the calls of kanzhulet.h, written on its own from the
+ * documents, with the queues and the table of known links that they speak of. It is what the benchmark holds the
+ * library against.
  *
- * Each call takes what the library's call of the same name takes, returns the refusal number and stores the same answer. Two things
- * differ. A session is a struct with its queues in it, lent by the caller, and is trusted: refusal 19 is never given. And the other
- * calls have their queues and tables in static memory, so they are not for several threads at once.
+ * Each call takes what the library's call of the same name takes, returns the refusal number and stores the same
+ * answer. Two things differ. A session is a struct with its queues in it, lent by the caller, and is trusted: refusal
+ * 19 is never given. And the other calls have their queues and tables in static memory, so they are not for several
+ * threads at once.
  */
 #ifndef SURFACE_REFERENCE_H
 #define SURFACE_REFERENCE_H
@@ -32,23 +34,24 @@ struct ref_session {
     struct ref_queue queues[REF_RANKS];
 };
 
-uint32_t ref_check(uint64_t dim, uint64_t darts, uint64_t root, const uint16_t *tables, size_t tables_length, uint16_t *work,
-                   size_t work_length, uint32_t *answer);
+uint32_t ref_check(uint64_t dim, uint64_t darts, uint64_t root, const uint16_t *tables, size_t tables_length,
+                   uint16_t *work, size_t work_length, uint32_t *answer);
 
-uint32_t ref_write(uint64_t dim, uint64_t darts, uint64_t root, uint64_t start, const uint16_t *tables, size_t tables_length,
-                   uint16_t *work, size_t work_length, uint8_t *out, size_t out_length, uint32_t *answer);
+uint32_t ref_write(uint64_t dim, uint64_t darts, uint64_t root, uint64_t start, const uint16_t *tables,
+                   size_t tables_length, uint16_t *work, size_t work_length, uint8_t *out, size_t out_length,
+                   uint32_t *answer);
 
 uint32_t ref_read(const uint8_t *bytes, size_t bytes_length, uint16_t *tables, size_t tables_length, uint32_t *answer);
 
 void ref_open(struct ref_session *session);
 
-uint32_t ref_page(struct ref_session *session, const uint8_t *bytes, size_t bytes_length, uint16_t *tables, size_t tables_length,
-                  uint32_t *answer);
+uint32_t ref_page(struct ref_session *session, const uint8_t *bytes, size_t bytes_length, uint16_t *tables,
+                  size_t tables_length, uint32_t *answer);
 
 uint32_t ref_close(struct ref_session *session, uint16_t *tables, size_t tables_length, uint32_t *answer);
 
-uint32_t ref_report(uint64_t dim, uint64_t darts, const uint16_t *tables, size_t tables_length, uint16_t *work, size_t work_length,
-                    uint32_t *answer);
+uint32_t ref_report(uint64_t dim, uint64_t darts, const uint16_t *tables, size_t tables_length, uint16_t *work,
+                    size_t work_length, uint32_t *answer);
 
 /* The fifteen numbers that the library's record holds for the same session. */
 void ref_record(const struct ref_session *session, uint32_t record[REF_RECORD]);

@@ -1,7 +1,7 @@
 /*
- * The frame of the surface tests: counted checks, rooms lent between guards, and one function for each call of the library. Such a
- * function lends the rooms, makes the call, and checks what kanzhulet.h says of every such call, whatever was lent. The cases in
- * calls.c add what they know about their own input.
+ * The frame of the surface tests: counted checks, rooms lent between guards, and one function for each call of the
+ * library. Such a function lends the rooms, makes the call, and checks what kanzhulet.h says of every such call,
+ * whatever was lent. The cases in calls.c add what they know about their own input.
  */
 #ifndef SURFACE_ROOMS_H
 #define SURFACE_ROOMS_H
@@ -59,7 +59,8 @@ enum { POSTED, BUILT, WORK, OUT, PAGE, RECORD, ANSWER, ROOMS };
 static struct room *const rooms[ROOMS] = { &posted_room, &built_room, &work_room, &out_room,
                                            &page_room, &record_room, &answer_room };
 
-/* Lends so many bytes. What they hold differs from place to place, so that a byte moved is seen as well as a byte set. */
+/* Lends so many bytes. What they hold differs from place to place, so that a byte moved is seen as well as a byte set.
+ */
 static void lend(struct room *room, size_t size)
 {
     size_t k;
@@ -233,7 +234,8 @@ static uint32_t call_write(struct map m, uint64_t root, uint64_t start)
     uint64_t left;
     LEND(answer, KZ_WRITE_ANSWER);
     before_call();
-    number = kz_write(m.dim, m.darts, root, start, posted, LENGTH(posted), work, LENGTH(work), out, LENGTH(out), answer);
+    number =
+        kz_write(m.dim, m.darts, root, start, posted, LENGTH(posted), work, LENGTH(work), out, LENGTH(out), answer);
     after_answer(number, 1u << WORK | 1u << OUT, KZ_DIMENSION, KZ_PAST_END);
     after_walk(number, m, root);
     CHECK(KEPT_FROM(out, answer[2]));

@@ -7,4 +7,5 @@ void *memcpy(void *restrict to, const void *restrict from, size_t size);
 int memcmp(const void *a, const void *b, size_t size);
 size_t strlen(const char *text);
 int strcmp(const char *a, const char *b);
+char *strstr(const char *text, const char *part);
 #endif

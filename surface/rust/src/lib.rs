@@ -1,11 +1,12 @@
 //! A safe wrapper of the proved library for generalised maps, for x86-64 Linux.
 //!
-//! A map of dimension N (1 to 6) has n darts (1 to 4,096), 0 to n-1, and N+1 links a0..aN for each dart. Its tables are 16-bit numbers:
-//! ai(d) stands at position i·n + d, and ai(d) = d says that dart d is free at rank i. In tables that are being read, [`NO_LINK`] says
-//! "no link yet". `include/kanzhulet.h` says in full what each call stores; this wrapper calls it and adds no behaviour.
+//! A map of dimension N (1 to 6) has n darts (1 to 4,096), 0 to n-1, and N+1 links a0..aN for each dart. Its tables are
+//! 16-bit numbers: ai(d) stands at position i·n + d, and ai(d) = d says that dart d is free at rank i. In tables that
+//! are being read, [`NO_LINK`] says "no link yet". `include/kanzhulet.h` says in full what each call stores; this
+//! wrapper calls it and adds no behaviour.
 //!
-//! Every call takes all values of its numbers and all contents of its slices, and allocates nothing. A call that is not accepted gives a
-//! [`Refusal`].
+//! Every call takes all values of its numbers and all contents of its slices, and allocates nothing. A call that is not
+//! accepted gives a [`Refusal`].
 //!
 //! ```
 //! // One square: dimension 2, eight darts, 2s and 2s+1 the two ends of side s, every dart free at rank 2.
@@ -23,6 +24,7 @@
 #![deny(missing_docs)]
 
 use std::error::Error;
+use std::ffi::CStr;
 use std::fmt;
 
 /// The highest dimension.
@@ -42,6 +44,8 @@ pub const RECORD: usize = 15;
 
 mod surface {
     //! The calls of `kanzhulet.h`.
+
+    use std::os::raw::c_char;
 
     extern "C" {
         pub fn kz_check(
@@ -67,7 +71,13 @@ mod surface {
             out_length: usize,
             answer: *mut [u32; 4],
         ) -> u32;
-        pub fn kz_read(bytes: *const u8, bytes_length: usize, tables: *mut u16, tables_length: usize, answer: *mut [u32; 5]) -> u32;
+        pub fn kz_read(
+            bytes: *const u8,
+            bytes_length: usize,
+            tables: *mut u16,
+            tables_length: usize,
+            answer: *mut [u32; 5],
+        ) -> u32;
         pub fn kz_open(record: *mut [u32; 15]);
         pub fn kz_page(
             record: *mut [u32; 15],
@@ -87,11 +97,12 @@ mod surface {
             work_length: usize,
             answer: *mut [u32; 11],
         ) -> u32;
+        pub fn kz_message(number: u32) -> *const c_char;
     }
 }
 
-/// A call that was not accepted: by which number, at which place. Every other number of its answer is 0, but for the steps of a reading,
-/// which are the place.
+/// A call that was not accepted: by which number, at which place. Every other number of its answer is 0, but for the
+/// steps of a reading, which are the place.
 #[derive(Clone, Copy, Debug, PartialEq, Eq)]
 pub struct Refusal {
     /// The refusal number, 1 to 20, as `kanzhulet.h` lists them.
@@ -100,9 +111,18 @@ pub struct Refusal {
     pub place: usize,
 }
 
+impl Refusal {
+    /// The number in words, and in brackets what the place is: the text of `kz_message`.
+    pub fn message(&self) -> &'static str {
+        // SAFETY: every number has a text, which is the library's own, ends with a zero byte and never changes.
+        let text = unsafe { CStr::from_ptr(surface::kz_message(self.number)) };
+        text.to_str().expect("the library's texts are ASCII")
+    }
+}
+
 impl fmt::Display for Refusal {
     fn fmt(&self, f: &mut fmt::Formatter<'_>) -> fmt::Result {
-        write!(f, "refused {} at {}", self.number, self.place)
+        write!(f, "refused {} at {}: {}", self.number, self.place, self.message())
     }
 }
 
@@ -178,14 +198,21 @@ fn reading(number: u32, answer: [u32; 5]) -> Result<ReadAnswer, Refusal> {
     Ok(ReadAnswer { steps: steps as usize, dim: dim as usize, darts: darts as usize })
 }
 
-/// The check of posted tables, from a root: are they a valid connected map? Needs (N+1)·n entries of tables and 2n of work room; longer
-/// slices are allowed, and what is past these is neither read nor written.
+/// The check of posted tables, from a root: are they a valid connected map? Needs (N+1)·n entries of tables and 2n of
+/// work room; longer slices are allowed, and what is past these is neither read nor written.
 ///
 /// Refused by 1 to 9. After 1 to 8 the work room is unchanged, after 9 its first 2n entries are [`NO_LINK`].
-pub fn check<'a>(dim: usize, darts: usize, root: usize, tables: &[u16], work: &'a mut [u16]) -> Result<CheckAnswer<'a>, Refusal> {
+pub fn check<'a>(
+    dim: usize,
+    darts: usize,
+    root: usize,
+    tables: &[u16],
+    work: &'a mut [u16],
+) -> Result<CheckAnswer<'a>, Refusal> {
     let mut answer = [0; 2];
-    // SAFETY: each pointer is not null, aligned, and good for as many elements as its length says, as it comes from a slice that is
-    // borrowed over the call. What the call may write is borrowed as mutable, so it overlaps nothing else and no other thread touches it.
+    // SAFETY: each pointer is not null, aligned, and good for as many elements as its length says, as it comes from a
+    // slice that is borrowed over the call. What the call may write is borrowed as mutable, so it overlaps nothing else
+    // and no other thread touches it.
     let number = unsafe {
         surface::kz_check(
             dim as u64,
@@ -203,11 +230,12 @@ pub fn check<'a>(dim: usize, darts: usize, root: usize, tables: &[u16], work: &'
     Ok(CheckAnswer { walk_numbers, darts: &rest[..darts] })
 }
 
-/// The paged writer: the bytes of the map's stream from byte `start` on, as many as `out` holds or the stream has. A start equal to the
-/// length is accepted and writes nothing. Tables and work room are as for [`check`].
+/// The paged writer: the bytes of the map's stream from byte `start` on, as many as `out` holds or the stream has. A
+/// start equal to the length is accepted and writes nothing. Tables and work room are as for [`check`].
 ///
-/// Refused by 1 to 9 as [`check`], then by 10, at the stream's length, if the start is past it. A refusal leaves `out` unchanged. After
-/// an accepted call and after 10 the first n entries of the work room are each dart's walk number, the next n the dart of each number.
+/// Refused by 1 to 9 as [`check`], then by 10, at the stream's length, if the start is past it. A refusal leaves `out`
+/// unchanged. After an accepted call and after 10 the first n entries of the work room are each dart's walk number, the
+/// next n the dart of each number.
 pub fn write(
     dim: usize,
     darts: usize,
@@ -239,26 +267,36 @@ pub fn write(
     Ok(WriteAnswer { written: written as usize, length: length as usize })
 }
 
-/// One whole read: accepts exactly the streams that some valid connected map within the limits has from some root, and builds that map
-/// under its walk numbering in the first (N+1)·n entries of the tables.
+/// One whole read: accepts exactly the streams that some valid connected map within the limits has from some root, and
+/// builds that map under its walk numbering in the first (N+1)·n entries of the tables.
 ///
-/// Refused by 1, 3 and 11 to 18. Once a header is accepted, a refusal leaves [`NO_LINK`] in the first (N+1)·n entries; before, it leaves
-/// the tables unchanged.
+/// Refused by 1, 3 and 11 to 18. Once a header is accepted, a refusal leaves [`NO_LINK`] in the first (N+1)·n entries;
+/// before, it leaves the tables unchanged.
 pub fn read(bytes: &[u8], tables: &mut [u16]) -> Result<ReadAnswer, Refusal> {
     let mut answer = [0; 5];
     // SAFETY: as in `check`; the call may write the tables, which are borrowed as mutable.
-    let number = unsafe { surface::kz_read(bytes.as_ptr(), bytes.len(), tables.as_mut_ptr(), tables.len(), &mut answer) };
+    let number =
+        unsafe { surface::kz_read(bytes.as_ptr(), bytes.len(), tables.as_mut_ptr(), tables.len(), &mut answer) };
     reading(number, answer)
 }
 
 /// The cell report of a map. Tables and work room are as for [`check`].
 ///
-/// Refused by 1 to 4 and 6 to 9, as [`check`] with root 0. After an accepted call the first 2n entries of the work room are [`NO_LINK`].
+/// Refused by 1 to 4 and 6 to 9, as [`check`] with root 0. After an accepted call the first 2n entries of the work room
+/// are [`NO_LINK`].
 pub fn report(dim: usize, darts: usize, tables: &[u16], work: &mut [u16]) -> Result<ReportAnswer, Refusal> {
     let mut answer = [0; 11];
     // SAFETY: as in `check`.
     let number = unsafe {
-        surface::kz_report(dim as u64, darts as u64, tables.as_ptr(), tables.len(), work.as_mut_ptr(), work.len(), &mut answer)
+        surface::kz_report(
+            dim as u64,
+            darts as u64,
+            tables.as_ptr(),
+            tables.len(),
+            work.as_mut_ptr(),
+            work.len(),
+            &mut answer,
+        )
     };
     let [_, place, c0, c1, c2, c3, c4, c5, c6, free, orientable] = answer;
     accepted(number, place)?;
@@ -269,8 +307,8 @@ pub fn report(dim: usize, darts: usize, tables: &[u16], work: &mut [u16]) -> Res
     })
 }
 
-/// A session reads one stream by pages of any sizes: open, any number of pages, close. The caller lends the same tables to each call
-/// and writes nothing to them in between.
+/// A session reads one stream by pages of any sizes: open, any number of pages, close. The caller lends the same tables
+/// to each call and writes nothing to them in between.
 ///
 /// What closing answers, and the tables then, are those of one [`read`] of all the bytes, wherever they were cut.
 #[derive(Clone, Debug, PartialEq, Eq)]
@@ -291,17 +329,26 @@ impl Session {
 
     /// The next page of the stream. Every step is done that needs no bit beyond those seen.
     ///
-    /// Refused by 19 if the session is not fit, or the tables do not go with it; by 20 if it is closed; else as [`read`] but for 11. A
-    /// refused session repeats its refusal.
+    /// Refused by 19 if the session is not fit, or the tables do not go with it; by 20 if it is closed; else as
+    /// [`read`] but for 11. A refused session repeats its refusal.
     pub fn page(&mut self, bytes: &[u8], tables: &mut [u16]) -> Result<ReadAnswer, Refusal> {
         let mut answer = [0; 5];
         // SAFETY: as in `read`; the record too is borrowed as mutable over the call.
-        let number =
-            unsafe { surface::kz_page(&mut self.record, bytes.as_ptr(), bytes.len(), tables.as_mut_ptr(), tables.len(), &mut answer) };
+        let number = unsafe {
+            surface::kz_page(
+                &mut self.record,
+                bytes.as_ptr(),
+                bytes.len(),
+                tables.as_mut_ptr(),
+                tables.len(),
+                &mut answer,
+            )
+        };
         reading(number, answer)
     }
 
-    /// The end of the stream. Accepted if the whole stream was read; refused by 11 if it is cut, and as [`Session::page`] otherwise.
+    /// The end of the stream. Accepted if the whole stream was read; refused by 11 if it is cut, and as
+    /// [`Session::page`] otherwise.
     pub fn close(&mut self, tables: &mut [u16]) -> Result<ReadAnswer, Refusal> {
         let mut answer = [0; 5];
         // SAFETY: as in `page`.
@@ -321,13 +368,14 @@ impl Session {
         }
     }
 
-    /// The fifteen numbers that are the session, as `kanzhulet.h` lists them. Together with the tables they may be stored and carried
-    /// on later, by another process too.
+    /// The fifteen numbers that are the session, as `kanzhulet.h` lists them. Together with the tables they may be
+    /// stored and carried on later, by another process too.
     pub fn record(&self) -> [u32; RECORD] {
         self.record
     }
 
-    /// The session of a stored record. Any numbers may be given: those that no session stands for are refused by 19 when they are used.
+    /// The session of a stored record. Any numbers may be given: those that no session stands for are refused by 19
+    /// when they are used.
     pub fn from_record(record: [u32; RECORD]) -> Session {
         Session { record }
     }

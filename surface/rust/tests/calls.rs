@@ -1,10 +1,12 @@
-//! Tests of the wrapper, the same as those of the surface for C (`surface/calls.c`): every call, every refusal number, slices between
-//! guards. `rooms` checks what holds of every call; the cases here say which answer an input gets.
+//! Tests of the wrapper, the same as those of the surface for C (`surface/calls.c`): every call, every refusal number,
+//! slices between guards. `rooms` checks what holds of every call; the cases here say which answer an input gets.
 
 mod maps;
 mod rooms;
 
-use kanzhulet::{ReadAnswer, Refusal, ReportAnswer, State, WriteAnswer, MAX_DARTS, MAX_STREAM, MAX_TABLES, MAX_WORK, NO_LINK, RECORD};
+use kanzhulet::{
+    ReadAnswer, Refusal, ReportAnswer, State, WriteAnswer, MAX_DARTS, MAX_STREAM, MAX_TABLES, MAX_WORK, NO_LINK, RECORD,
+};
 use maps::{post_chain, post_free, post_pairs, post_ring, post_squares, tie, Sample, SAMPLES};
 use rooms::{refused, Lent, Map, SPARE};
 
@@ -101,7 +103,8 @@ static READINGS: &[Reading] = &[
     ("lone dart in 6", &[0x60, 0x00, 0xAA, 0xA8], 7, 0, 0, 6, 1),
     ("no fill, a byte after", &[0x30, 0x00, 0xAA, 0x00], 4, 18, 4, 0, 0),
     ("last fill bit", &[0x60, 0x00, 0xAA, 0xA9], 7, 17, 7, 0, 0),
-    // A named dart: judged once its twelve bits are in; not the dart itself (P9), not one without number, not one that is linked.
+    // A named dart: judged once its twelve bits are in; not the dart itself (P9), not one without number, not one that
+    // is linked.
     ("index not all there", &[0x10, 0x01, 0xFF], 4, 11, 0, 0, 0),
     ("index without number", &[0x10, 0x02, 0x60, 0x0A], 6, 12, 2, 0, 0),
     ("index linked already", &[0x10, 0x03, 0x18, 0x00, 0x00], 8, 12, 5, 0, 0),
@@ -147,7 +150,8 @@ fn expect_built(lent: &mut Lent, bytes: &[u8], tables: &[u16]) {
     lent.must(whole.answer.is_ok() && whole.tables == tables, "the tables are those known");
 }
 
-/// P3's tables tell a walk that goes back to queue 0 after a new dart from one that does not; its answer and cells do not.
+/// P3's tables tell a walk that goes back to queue 0 after a new dart from one that does not; its answer and cells do
+/// not.
 fn read_known_tables(lent: &mut Lent) {
     lent.begin("tables of P1 to P3");
     expect_built(lent, &[0x10, 0x00, 0xA0], &[0, 0]);
@@ -167,8 +171,8 @@ fn open_in(lent: &mut Lent, room: usize) {
     lent.built.lend(room);
 }
 
-/// A session's fifteen numbers and its tables put away, another stream read in the same rooms, and both taken up again: nothing else
-/// belongs to a session.
+/// A session's fifteen numbers and its tables put away, another stream read in the same rooms, and both taken up again:
+/// nothing else belongs to a session.
 fn carry_elsewhere(lent: &mut Lent) {
     let (record, tables) = (lent.record(), lent.built.at().to_vec());
     open_in(lent, 4);
@@ -381,8 +385,8 @@ fn lent_refusals_and_closed_records(lent: &mut Lent) {
     expect_close(lent, refused(20, 0));
 }
 
-/// A fit session that no reading could leave is carried on by the same rules: here a0 is not its own inverse, and dimension 1 has no pair
-/// of ranks that the end could test.
+/// A fit session that no reading could leave is carried on by the same rules: here a0 is not its own inverse, and
+/// dimension 1 has no pair of ranks that the end could test.
 fn lent_session_goes_on(lent: &mut Lent) {
     lent.begin("lent session goes on");
     lent.take_up(record_of(&[1, 0, 0, 1, 2, 2, 2, 1]));
@@ -489,7 +493,8 @@ fn darts_not_reached(lent: &mut Lent) {
     all_refuse(lent, m, 9, 9, 0);
 }
 
-/// A posting with the faults of 1 to 10, the first `mended` of them mended: the map, the root and the start to call with.
+/// A posting with the faults of 1 to 10, the first `mended` of them mended: the map, the root and the start to call
+/// with.
 fn post_faults(lent: &mut Lent, mended: usize) -> (Map, usize, usize) {
     let m = post_free(lent, 2, 6);
     tie(lent, m, 0, 0, 1);
@@ -619,7 +624,8 @@ fn built_under(lent: &Lent, m: Map, numbers: &[u16]) -> bool {
     })
 }
 
-/// Check, write, read back; then the same by pages, of sizes that do not make too many of them. The stream and its tables.
+/// Check, write, read back; then the same by pages, of sizes that do not make too many of them. The stream and its
+/// tables.
 fn there_and_back(lent: &mut Lent, m: Map, root: usize) -> (Vec<u8>, Vec<u16>) {
     accepts(lent, m, root);
     let numbers = lent.work.at()[..m.darts].to_vec();
@@ -640,7 +646,8 @@ fn there_and_back(lent: &mut Lent, m: Map, root: usize) -> (Vec<u8>, Vec<u16>) {
     (stream, whole.tables)
 }
 
-/// Posts the tables that were built: from dart 0 they have the same stream, and the walk numbers the darts as they stand.
+/// Posts the tables that were built: from dart 0 they have the same stream, and the walk numbers the darts as they
+/// stand.
 fn post_what_was_built(lent: &mut Lent, m: Map, stream: &[u8], tables: &[u16]) {
     lent.posted.at_mut()[..m.entries()].copy_from_slice(&tables[..m.entries()]);
     expect_stream(lent, m, 0, stream);
@@ -699,4 +706,26 @@ fn longest_stream(lent: &mut Lent) {
     feed_pages_of(lent, &stream, &whole, 4096);
     let short = read_whole(lent, &stream, MAX_TABLES - 1);
     lent.expect(short.answer, refused(3, 0));
+}
+
+// Texts.
+
+/// A refusal prints as its number, its place and the text of `kz_message`, which the guide lists by number.
+#[test]
+fn refusals_print_the_texts_of_the_guide() {
+    let guide = include_str!("../../../docs/GUIDE.md");
+    let mut listed = 0;
+    for row in guide.lines().filter_map(|line| line.strip_prefix("| ")?.strip_suffix(" |")) {
+        let (first, text) = row.split_once(" | ").expect("a row of two columns");
+        if let Ok(number) = first.parse() {
+            let refusal = Refusal { number, place: 7 };
+            assert_eq!(refusal.message(), text);
+            assert_eq!(refusal.to_string(), format!("refused {number} at 7: {text}"));
+            assert_eq!(number, listed);
+            listed += 1;
+        }
+    }
+    assert_eq!(listed, 21);
+    let none = Refusal { number: 21, place: 0 };
+    assert_eq!(none.to_string(), "refused 21 at 0: there is no refusal of this number");
 }

@@ -1,5 +1,6 @@
-//! Maps of dimension 1 to 6 by simple constructions, with the cells that geometry gives them. Each function posts its map: it lends
-//! `posted` with `SPARE` entries more than the map has, all of which say `NO_LINK`, and `work` with `SPARE` entries more than 2n.
+//! Maps of dimension 1 to 6 by simple constructions, with the cells that geometry gives them. Each function posts its
+//! map: it lends `posted` with `SPARE` entries more than the map has, all of which say `NO_LINK`, and `work` with
+//! `SPARE` entries more than 2n.
 
 use crate::rooms::{Lent, Map, SPARE};
 use kanzhulet::{MAX_DARTS, NO_LINK};
@@ -19,8 +20,8 @@ pub fn tie(lent: &mut Lent, m: Map, rank: usize, d: usize, e: usize) {
     lent.posted.at_mut()[rank * m.darts + e] = d as u16;
 }
 
-/// Where place x of a path of this length goes: the even involution pairs 0-1, 2-3 and so on, the odd one 1-2, 3-4 and so on. An end
-/// without partner stays.
+/// Where place x of a path of this length goes: the even involution pairs 0-1, 2-3 and so on, the odd one 1-2, 3-4 and
+/// so on. An end without partner stays.
 fn along(x: usize, length: usize, odd: usize) -> usize {
     let y = if (x + odd) % 2 == 0 { x + 1 } else { x.wrapping_sub(1) };
     if y < length {
@@ -62,7 +63,8 @@ pub fn post_squares(lent: &mut Lent, squares: usize) -> Map {
     m
 }
 
-/// Joins side s of square q to side s+2 of square r. Both run round their squares, so the ends meet crosswise unless one is twisted.
+/// Joins side s of square q to side s+2 of square r. Both run round their squares, so the ends meet crosswise unless
+/// one is twisted.
 fn join_sides(lent: &mut Lent, m: Map, q: usize, r: usize, s: usize, twisted: usize) {
     let (here, there) = (8 * q + 2 * s, 8 * r + 2 * ((s + 2) % 4));
     tie(lent, m, 2, here, there + 1 - twisted);
@@ -105,8 +107,9 @@ fn orders_of_axes(dim: usize) -> Vec<Vec<usize>> {
     orders
 }
 
-/// A box of dimension 1 to 5, alone or wrapped: each of its sides joined to the opposite one. A dart is a corner (one bit for each axis)
-/// and an order of the axes: the edge of the dart at that corner runs along the first axis, the face along the first two, and so on.
+/// A box of dimension 1 to 5, alone or wrapped: each of its sides joined to the opposite one. A dart is a corner (one
+/// bit for each axis) and an order of the axes: the edge of the dart at that corner runs along the first axis, the face
+/// along the first two, and so on.
 fn post_box(lent: &mut Lent, dim: usize, wrapped: bool) -> Map {
     let orders = orders_of_axes(dim);
     let count = orders.len();
@@ -139,8 +142,8 @@ fn post_bits(lent: &mut Lent, dim: usize) -> Map {
     m
 }
 
-/// A dart is a place in a grid of four directions. Along direction k, rank 2k is the even involution of a path and rank 2k+1 the odd one;
-/// the fourth direction has the one rank 6.
+/// A dart is a place in a grid of four directions. Along direction k, rank 2k is the even involution of a path and rank
+/// 2k+1 the odd one; the fourth direction has the one rank 6.
 fn post_paths(lent: &mut Lent, length: [usize; 4]) -> Map {
     let m = post_free(lent, 6, length.iter().product());
     for i in 0..=6 {
@@ -153,8 +156,9 @@ fn post_paths(lent: &mut Lent, length: [usize; 4]) -> Map {
     m
 }
 
-/// The map of dimension 6 whose stream is longest for its even number of darts. Ranks 0 to 4 tie the darts of each pair 2k, 2k+1. Ranks 5
-/// and 6 are the even and the odd involution of a path over the pairs, and a pair without partner is tied within.
+/// The map of dimension 6 whose stream is longest for its even number of darts. Ranks 0 to 4 tie the darts of each pair
+/// 2k, 2k+1. Ranks 5 and 6 are the even and the odd involution of a path over the pairs, and a pair without partner is
+/// tied within.
 pub fn post_pairs(lent: &mut Lent, darts: usize) -> Map {
     let m = post_free(lent, 6, darts);
     for d in 0..darts {

@@ -1,6 +1,6 @@
-//! The frame of the surface tests: rooms lent between guards, and one function for each call of the library. Such a function lends the
-//! rooms, makes the call, and checks what `kanzhulet.h` says of every such call, whatever was lent. The cases in `calls.rs` add what they
-//! know about their own input.
+//! The frame of the surface tests: rooms lent between guards, and one function for each call of the library. Such a
+//! function lends the rooms, makes the call, and checks what `kanzhulet.h` says of every such call, whatever was lent.
+//! The cases in `calls.rs` add what they know about their own input.
 
 use kanzhulet::{ReadAnswer, Refusal, ReportAnswer, Session, State, WriteAnswer, MAX_DARTS, MAX_DIM, NO_LINK, RECORD};
 
@@ -21,7 +21,8 @@ impl<T: Copy + PartialEq + From<u8>> Room<T> {
         room
     }
 
-    /// Lends so many elements. What they hold differs from place to place, so that an element moved is seen as well as one set.
+    /// Lends so many elements. What they hold differs from place to place, so that an element moved is seen as well as
+    /// one set.
     pub fn lend(&mut self, length: usize) {
         self.hold = vec![T::from(CANARY); GUARD];
         self.hold.extend((0..length).map(|k| T::from((7 * k + 1) as u8)));
@@ -155,13 +156,20 @@ impl Lent {
         self.page.before_call();
     }
 
-    /// After every call: the guards stand, rooms that no call writes are kept, and the number is one that such a call may give.
+    /// After every call: the guards stand, rooms that no call writes are kept, and the number is one that such a call
+    /// may give.
     #[track_caller]
     fn after_call<T>(&mut self, answer: &Result<T, Refusal>, most: u32) {
-        let guarded =
-            self.posted.guarded() && self.built.guarded() && self.work.guarded() && self.out.guarded() && self.page.guarded();
+        let guarded = self.posted.guarded()
+            && self.built.guarded()
+            && self.work.guarded()
+            && self.out.guarded()
+            && self.page.guarded();
         self.must(guarded, "the guards stand");
-        self.must(self.sessions[0].record() == BESIDE && self.sessions[2].record() == BESIDE, "the sessions beside stand");
+        self.must(
+            self.sessions[0].record() == BESIDE && self.sessions[2].record() == BESIDE,
+            "the sessions beside stand",
+        );
         self.must(self.posted.kept() && self.page.kept(), "what is lent for reading is kept");
         let number = number_of(answer);
         self.must(number <= most, "such a call gives this number");
@@ -207,7 +215,8 @@ impl Lent {
     #[track_caller]
     pub fn write(&mut self, m: Map, root: usize, start: usize) -> Result<WriteAnswer, Refusal> {
         self.before_call();
-        let answer = kanzhulet::write(m.dim, m.darts, root, start, self.posted.at(), self.work.at_mut(), self.out.at_mut());
+        let answer =
+            kanzhulet::write(m.dim, m.darts, root, start, self.posted.at(), self.work.at_mut(), self.out.at_mut());
         self.after_call(&answer, 10);
         self.after_walk(&answer, m, root);
         match answer {

@@ -1,0 +1,34 @@
+/*
+ * The texts of the refusal numbers, for C and for the wrapper in Rust. This is the one part of the library that is
+ * plain C and not proved: the tests hold it to docs/GUIDE.md, number by number.
+ */
+#include "kanzhulet.h"
+
+static const char *const messages[] = {
+    [KZ_ACCEPTED] = "accepted",
+    [KZ_DIMENSION] = "the dimension is not 1 to 6 (place: 0)",
+    [KZ_DARTS] = "the number of darts is not 1 to 4096 (place: 0)",
+    [KZ_SHORT_TABLES] = "the tables are shorter than (N+1)*n entries (place: 0)",
+    [KZ_SHORT_WORK] = "the work room is shorter than 2n entries (place: 0)",
+    [KZ_ROOT] = "the root is no dart (place: 0)",
+    [KZ_ENTRY] = "an entry is no dart (place: the first such position in the tables)",
+    [KZ_INVERSE] = "a link does not lead back (place: the first such position in the tables)",
+    [KZ_MANIFOLD] = "links two or more ranks apart do not commute (place: the dart)",
+    [KZ_NOT_REACHED] = "a dart is not reached from the root (place: the least such dart)",
+    [KZ_PAST_END] = "the page starts past the stream's end (place: the stream's length)",
+    [KZ_CUT] = "the stream ended early (place: the steps done)",
+    [KZ_INDEX] = "the stream names a dart that is not allowed there (place: the steps done)",
+    [KZ_TOO_MANY] = "the stream has more darts than its header says (place: the steps done)",
+    [KZ_TAKEN] = "a link that follows from others is taken already (place: the steps done)",
+    [KZ_TOO_FEW] = "the stream has fewer darts than its header says (place: the steps done)",
+    [KZ_BUILT] = "links two or more ranks apart do not commute in the map read (place: the steps done)",
+    [KZ_FILL] = "a fill bit of the stream's last byte is set (place: the steps done)",
+    [KZ_BYTE_AFTER] = "a byte follows the stream's end (place: the steps done)",
+    [KZ_UNFIT] = "the record is no session that can go on with these tables (place: 0)",
+    [KZ_CLOSED] = "the session is closed (place: 0)",
+};
+
+const char *kz_message(uint32_t number)
+{
+    return number < sizeof messages / sizeof *messages ? messages[number] : "there is no refusal of this number";
+}

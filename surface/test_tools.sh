@@ -1,0 +1,190 @@
+# Read by surface/test: the tests of ./run, of ./install and of what is installed.
+
+# ends STATUS WORD...: a command ends with this status; what it prints goes to target/surface/said.out and said.err.
+ends() {
+  local want=$1 status=0
+  shift
+  "$@" >"$build/said.out" 2>"$build/said.err" || status=$?
+  [ "$status" -eq "$want" ] || { cat "$build/said.err"; stop "$* ended with status $status and not $want"; }
+}
+
+# said FILE PATTERN: the last of these commands printed such a line to said.out or said.err.
+said() {
+  grep -q -e "$2" "$build/said.$1" || { cat "$build/said.$1"; stop "nothing like '$2' was said"; }
+}
+
+# said_no FILE: it printed nothing there.
+said_no() {
+  [ ! -s "$build/said.$1" ] || { cat "$build/said.$1"; stop "something was said where nothing is to be said"; }
+}
+
+# lists STATUS TEXT WORD...: the words, a listing command, print just this for standard input, with this status.
+lists() {
+  local text=$2
+  ends "$1" "${@:3}"
+  printf '%s\n' "$text" | diff - "$build/said.out" || stop "${*:3} does not print what it is to print"
+  said_no err
+}
+
+# refuses_words WORD...: what such a command says of arguments that it does not take.
+refuses_words() {
+  ends 2 "$@" "$build/longest.stream" "$build/longest.stream"
+  said err 'one file at a time'
+  ends 2 "$@" --verbose
+  said err 'there is no option --verbose'
+  ends 2 "$@" "$build/no such file"
+  said err 'there is no file .*no such file'
+  ends 2 "$@" "$build"
+  said err 'is a folder'
+  said_no out
+  ends 0 "$@" --help
+  said out '^usage: .* \[FILE\]$'
+  said_no err
+}
+
+# A refusal prints one line, streams beyond 50,178 bytes are read in full, and a stream of several pages is listed
+# whole, from standard input and from a file.
+test_listing() {
+  local text
+  bring_program
+  printf '' | lists 1 'refused 11 at 0' "$root/run"
+  printf '\x70\x00' | lists 1 'refused 1 at 0' "$root/run"
+  { printf '\x10\x00\xA0'; head -c 60000 /dev/zero; } | lists 1 'refused 18 at 2' "$root/run"
+  { printf '\x1F\xFF'; head -c 60000 /dev/zero; } | lists 1 'refused 13 at 8189' "$root/run"
+  run longest stream >"$build/longest.stream"
+  [ "$(wc -c <"$build/longest.stream")" -eq 14854 ] || stop "the longest stream is not of 14,854 bytes"
+  text=$(run longest text)
+  lists 0 "$text" "$root/run" <"$build/longest.stream"
+  lists 0 "$text" "$root/run" "$build/longest.stream" </dev/null
+  refuses_words "$root/run" </dev/null
+  say "the listing program prints what it is to print"
+}
+
+# When ./run proves and builds, and what it says then, in a copy of the repository with a stand-in for rt: it takes
+# every crate for proved, and the program for built, unless there is a file `fault`.
+test_run() {
+  local copy=$build/copy tool
+  rm -rf "$copy"
+  mkdir -p "$copy/kit/bin" "$copy/tools"
+  cp -r "$root/crates" "$root/crates.txt" "$root/run" "$root/surface" "$copy"
+  find_kit
+  ln -s "${kit%/on/*}/on" "$copy/kit/on"
+  cat >"$copy/kit/bin/rt" <<END
+#!/bin/sh
+echo "\$*" >>calls
+[ ! -f fault ] || { echo 'rt: rules NOT PROVED (exit 1, 0 s)'; exit 1; }
+mkdir -p target/stamp target/bin
+for crate in rules tables; do echo "rt: \$crate proved (0 s)"; done
+for crate in crates/*; do : >target/stamp/\${crate##*/}; done
+cp '$root/target/bin/list' target/bin/list
+END
+  chmod +x "$copy/kit/bin/rt"
+  for tool in bash awk cat dirname find grep mkdir readlink sleep touch uname; do
+    ln -s "$(command -v "$tool")" "$copy/tools/$tool"
+  done
+  printf '\x10\x00\xA0' >"$copy/lone"
+  (cd "$copy" && proves_when_needed </dev/null)
+  say "./run proves and builds what has changed, and nothing else"
+}
+
+# made TIMES: the stand-in was called so often since it was last asked.
+made() {
+  local calls=0
+  [ ! -f calls ] || calls=$(grep -c '' calls)
+  rm -f calls
+  [ "$calls" -eq "$1" ] || stop "rt was called $calls times and not $1"
+}
+
+proves_when_needed() {
+  local rest=$PATH
+  PATH=$PWD/tools ends 2 ./run lone
+  said err 'the command rt of the Rattle toolchain is not on the path: see README.md, "What it needs"'
+  grep -q '^## What it needs$' "$root/README.md" || stop "README.md does not say what it needs"
+  PATH=$PWD/kit/bin:$rest
+  ends 0 ./run --help
+  made 0
+  : >fault
+  ends 2 ./run lone
+  said err '^run: building the listing program: 16 of 16 crates to prove, about 3 minutes$'
+  said err 'could not be proved and built: see target/list.log$'
+  said_no out
+  grep -q 'NOT PROVED' target/list.log || stop "the log has not what rt said"
+  made 1
+  rm fault
+  ends 0 ./run lone
+  said out '^dimension 1 darts 1$'
+  said err '^run: 2 of 16 crates, [0-9]* seconds$'
+  made 1
+  touch crates/lent/src/lib.rt crates/rules/must-fail/* surface/calls.c
+  ends 0 ./run lone
+  said_no err
+  made 0
+  touch crates/listing/src/lib.rt
+  ends 0 ./run lone
+  said err '^run: building the listing program: 2 of 16 crates to prove, about 24 seconds$'
+  made 1
+  ends 0 ./run lone
+  made 0
+}
+
+# flags OPTION FIELD: what pkg-config answers for the installed library, or the file's own field where there is none.
+flags() {
+  if command -v pkg-config >/dev/null; then
+    PKG_CONFIG_PATH=$prefix/lib/pkgconfig pkg-config "$1" kanzhulet
+  else
+    sed -n "s,\${includedir},$prefix/include,; s,\${libdir},$prefix/lib,; s/^$2: //p" \
+      "$prefix/lib/pkgconfig/kanzhulet.pc"
+  fi
+}
+
+# used NAME: surface/NAME.c, compiled in a folder of its own against the installed library with pkg-config's flags only.
+used() {
+  local include libs
+  read -r -a include < <(flags --cflags Cflags)
+  read -r -a libs < <(flags --libs Libs)
+  cp "$root/surface/$1.c" "$prefix/$1.c"
+  compile "$prefix/$1.c" "$prefix/$1.o" "${include[@]}"
+  link_with "$prefix/$1" "$prefix/$1.o" "${libs[@]}"
+  prints "$1" "$prefix/$1"
+}
+
+# One version everywhere.
+test_version() {
+  local version
+  version=$(flags --modversion Version)
+  grep -q "^#define KZ_VERSION \"$version\"\$" "$prefix/include/kanzhulet.h" || stop "the header has another version"
+  grep -q "^version = \"$version\"\$" "$root/surface/rust/Cargo.toml" || stop "Cargo.toml has another version"
+  grep -m 1 '^## ' "$root/docs/CHANGES.md" | grep -q " ($version)\$" ||
+    stop "docs/CHANGES.md begins with another version"
+}
+
+# The installed listing program. On another processor than x86-64 it takes an emulator from the path.
+test_installed_listing() {
+  local list=$prefix/bin/kanzhulet-list PATH=$PATH
+  if [ "$machine" != x86_64 ]; then
+    mkdir "$prefix/system"
+    ln -s "$kit/lib" "$prefix/system/lib64"
+    export QEMU_LD_PREFIX=$prefix/system
+    PATH=$kit/bin:$PATH
+  fi
+  lists 0 "$(run longest text)" "$list" "$build/longest.stream"
+  printf '\x10\x01' | lists 1 'refused 11 at 0' "$list"
+  refuses_words "$list" </dev/null
+  unset QEMU_LD_PREFIX
+}
+
+test_install() {
+  prefix=$(mktemp -d)
+  trap 'rm -rf "$prefix"' EXIT
+  ends 2 "$root/install"
+  ends 2 "$root/install" --prefix
+  ends 0 "$root/install" --help
+  said out '^usage: ./install PREFIX$'
+  ends 0 "$root/install" "$prefix/deep/er"
+  prefix=$prefix/deep/er
+  used example
+  used short
+  test_version
+  test_installed_listing
+  say "the library installs, and is used from there ($(command -v pkg-config || echo "without pkg-config"))"
+}
