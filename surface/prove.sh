@@ -47,7 +47,7 @@ about() { if [ "$1" -lt 90 ]; then echo "$1 seconds"; else echo "$((($1 + 30) / 
 count_along() {
   local began=$SECONDS
   while [ -t 2 ]; do
-    printf '\r%s' "$(say "$(proved_in "$1") of $2 crates, $((SECONDS - began)) seconds" 2>&1)" >&2
+    printf '\r%s' "$(say "$(proved_in "$1") of $2 crates proved, $((SECONDS - began)) s" 2>&1)" >&2
     sleep 1
   done
 }
@@ -82,7 +82,7 @@ bring() {
   wait "$counter" 2>/dev/null || true
   trap - EXIT
   [ ! -t 2 ] || printf '\r' >&2
-  say "$(proved_in "$log") of ${#all[@]} crates, $((SECONDS - began)) seconds" >&2
+  say "$(proved_in "$log") of ${#all[@]} crates proved, $((SECONDS - began)) s" >&2
   [ "$status" -eq 0 ] && [ -f "$product" ] || stop "$what could not be proved and built: see ${log#"$root"/}"
   # What was touched and is the same has its proof still; what changes while it is proved is younger than the start.
   for name in "${all[@]}"; do touch -c -r "$start" "$root/target/stamp/$name"; done

@@ -113,7 +113,7 @@ proves_when_needed() {
   rm fault
   ends 0 ./run lone
   said out '^dimension 1 darts 1$'
-  said err '^run: 2 of 16 crates, [0-9]* seconds$'
+  said err '^run: 2 of 16 crates proved, [0-9]* s$'
   made 1
   touch crates/lent/src/lib.rt crates/rules/must-fail/* surface/calls.c
   ends 0 ./run lone
