@@ -30,15 +30,14 @@ needs() {
     END { visit(wanted) }' "$root/crates.txt"
 }
 
-# changed CRATE: is it not proved, or is something in its folder younger than its proof? The edits that must fail are no
-# part of it.
+# changed CRATE PROOF: is there no such file, which is written when the crate is proved, or is something in the crate's
+# folder younger? The edits that must fail are no part of the crate.
 changed() {
-  local stamp=$root/target/stamp/$1
-  [ ! -f "$stamp" ] || [ -n "$(find "$root/crates/$1" -name must-fail -prune -o -newer "$stamp" -print -quit)" ]
+  [ ! -f "$2" ] || [ -n "$(find "$root/crates/$1" -name must-fail -prune -o -newer "$2" -print -quit)" ]
 }
 
-# proved_in LOG: of how many crates a log says that they are proved.
-proved_in() { grep -c '^rt: [A-Za-z0-9_]* proved (' "$1" || true; }
+# proved_in LOG: of how many crates a log says that they are proved. An archive's own crate is proved with it.
+proved_in() { grep -c -e '^rt: [A-Za-z0-9_]* proved (' -e '^rt: target/staticlib/' "$1" || true; }
 
 # about SECONDS, in words.
 about() { if [ "$1" -lt 90 ]; then echo "$1 seconds"; else echo "$((($1 + 30) / 60)) minutes"; fi; }
@@ -57,11 +56,13 @@ count_along() {
 # says goes to a log.
 bring() {
   local what=$1 product=$root/target/$2 crate=$4 log=$root/target/$4.log start=$root/target/$4.start
-  local name late='' touched='' all=() stale=() status=0 began=$SECONDS counter
+  local name proof late='' touched='' all=() stale=() status=0 began=$SECONDS counter
   mapfile -t all < <(needs "$crate")
   for name in "${all[@]}"; do
-    if changed "$name"; then touched+=" $name"; fi
-    if [ "$root/target/stamp/$name" -nt "$product" ]; then late=1; fi
+    proof=$root/target/stamp/$name
+    if [ "$name $3" = "$crate staticlib" ]; then proof=$product; fi
+    if changed "$name" "$proof"; then touched+=" $name"; fi
+    if [ "$proof" -nt "$product" ]; then late=1; fi
   done
   [ ! -f "$product" ] || [ -n "$touched$late" ] || return 0
   find_kit
@@ -85,7 +86,7 @@ bring() {
   say "$(proved_in "$log") of ${#all[@]} crates proved, $((SECONDS - began)) s" >&2
   [ "$status" -eq 0 ] && [ -f "$product" ] || stop "$what could not be proved and built: see ${log#"$root"/}"
   # What was touched and is the same has its proof still; what changes while it is proved is younger than the start.
-  for name in "${all[@]}"; do touch -c -r "$start" "$root/target/stamp/$name"; done
+  for name in $touched; do touch -c -r "$start" "$root/target/stamp/$name"; done
   [ ! "$start" -nt "$product" ] || touch -r "$start" "$product"
 }
 

@@ -162,8 +162,9 @@ test_version() {
 test_installed_listing() {
   local list=$prefix/bin/kanzhulet-list PATH=$PATH
   if [ "$machine" != x86_64 ]; then
-    mkdir "$prefix/system"
+    mkdir -p "$prefix/system/lib"
     ln -s "$kit/lib" "$prefix/system/lib64"
+    ln -s "$kit/lib" "$prefix/system/lib/x86_64-linux-gnu"
     export QEMU_LD_PREFIX=$prefix/system
     PATH=$kit/bin:$PATH
   fi
