@@ -62,7 +62,7 @@ bring() {
     proof=$root/target/stamp/$name
     if [ "$name $3" = "$crate staticlib" ]; then proof=$product; fi
     if changed "$name" "$proof"; then touched+=" $name"; fi
-    if [ "$proof" -nt "$product" ]; then late=1; fi
+    if [ "$name" != "$crate" ] && [ "$proof" -nt "$product" ]; then late=1; fi
   done
   [ ! -f "$product" ] || [ -n "$touched$late" ] || return 0
   find_kit
