@@ -17,7 +17,7 @@ static const uint16_t square[ENTRIES] = {
 static int refused(const uint32_t *answer)
 {
     if (answer[0] != KZ_ACCEPTED)
-        printf("refused %u at %u\n", (unsigned)answer[0], (unsigned)answer[1]);
+        printf("refused %u at %u: %s\n", (unsigned)answer[0], (unsigned)answer[1], kz_message(answer[0]));
     return answer[0] != KZ_ACCEPTED;
 }
 

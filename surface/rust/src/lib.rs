@@ -1,5 +1,8 @@
 //! A safe wrapper of the proved library for generalised maps, for x86-64 Linux.
 //!
+//! It links `libkanzhulet.a`: build with the environment variable KANZHULET_LIB naming the folder that has it, after
+//! `./install PREFIX` that is `PREFIX/lib`.
+//!
 //! A map of dimension N (1 to 6) has n darts (1 to 4,096), 0 to n-1, and N+1 links a0..aN for each dart. Its tables are
 //! 16-bit numbers: ai(d) stands at position i·n + d, and ai(d) = d says that dart d is free at rank i. In tables that
 //! are being read, [`NO_LINK`] says "no link yet". `include/kanzhulet.h` says in full what each call stores; this
