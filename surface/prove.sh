@@ -51,22 +51,45 @@ count_along() {
   done
 }
 
-# bring WHAT PRODUCT COMMAND CRATE: makes a product, a path below target/, by `rt COMMAND CRATE`, unless it is there and
-# as young as everything that it is made of. Says first how many crates are to be proved, then counts; what the prover
-# says goes to a log.
-bring() {
-  local what=$1 product=$root/target/$2 crate=$4 log=$root/target/$4.log start=$root/target/$4.start
-  local name proof late='' touched='' all=() stale=() status=0 began=$SECONDS counter
-  mapfile -t all < <(needs "$crate")
+# look_over PRODUCT COMMAND CRATE: sets `all`, the crates that a product is made of; `touched`, those of them that are not
+# proved or have changed; and `late`, not empty if one of the others was proved after the product was made.
+look_over() {
+  local name proof
+  all=() touched='' late=''
+  mapfile -t all < <(needs "$3")
   for name in "${all[@]}"; do
     proof=$root/target/stamp/$name
-    if [ "$name $3" = "$crate staticlib" ]; then proof=$product; fi
+    if [ "$name $2" = "$3 staticlib" ]; then proof=$1; fi
     if changed "$name" "$proof"; then touched+=" $name"; fi
-    if [ "$name" != "$crate" ] && [ "$proof" -nt "$product" ]; then late=1; fi
+    if [ "$name" != "$3" ] && [ "$proof" -nt "$1" ]; then late=1; fi
   done
+}
+
+# prove COMMAND CRATE LOG COUNT: `rt COMMAND CRATE`, with what it says in a log, and counting how many crates are done.
+prove() {
+  local status=0 began=$SECONDS counter
+  : >"$3"
+  count_along "$3" "$4" &
+  counter=$!
+  trap 'kill $counter 2>/dev/null' EXIT
+  (cd "$root" && rt "$1" "$2") </dev/null >"$3" 2>&1 || status=$?
+  kill "$counter" 2>/dev/null || true
+  wait "$counter" 2>/dev/null || true
+  trap - EXIT
+  [ ! -t 2 ] || printf '\r' >&2
+  say "$(proved_in "$3") of $4 crates proved, $((SECONDS - began)) s" >&2
+  return "$status"
+}
+
+# bring WHAT PRODUCT COMMAND CRATE: makes a product, a path below target/, by `rt COMMAND CRATE`, unless it is there and
+# as young as everything that it is made of. Says first how many crates are to be proved.
+bring() {
+  local what=$1 product=$root/target/$2 log=$root/target/$4.log start=$root/target/$4.start
+  local name all touched late stale
+  look_over "$product" "$3" "$4"
   [ ! -f "$product" ] || [ -n "$touched$late" ] || return 0
   find_kit
-  mapfile -t stale < <(needs "$crate" "$touched")
+  mapfile -t stale < <(needs "$4" "$touched")
   if [ ${#stale[@]} -eq 0 ]; then
     say "building $what from ${#all[@]} proved crates" >&2
   else
@@ -74,17 +97,7 @@ bring() {
   fi
   mkdir -p "$root/target"
   : >"$start"
-  : >"$log"
-  count_along "$log" "${#all[@]}" &
-  counter=$!
-  trap 'kill $counter 2>/dev/null' EXIT
-  (cd "$root" && rt "$3" "$crate") </dev/null >"$log" 2>&1 || status=$?
-  kill "$counter" 2>/dev/null || true
-  wait "$counter" 2>/dev/null || true
-  trap - EXIT
-  [ ! -t 2 ] || printf '\r' >&2
-  say "$(proved_in "$log") of ${#all[@]} crates proved, $((SECONDS - began)) s" >&2
-  [ "$status" -eq 0 ] && [ -f "$product" ] || stop "$what could not be proved and built: see ${log#"$root"/}"
+  prove "$3" "$4" "$log" "${#all[@]}" || stop "$what could not be proved and built: see ${log#"$root"/}"
   # What was touched and is the same has its proof still; what changes while it is proved is younger than the start.
   for name in $touched; do touch -c -r "$start" "$root/target/stamp/$name"; done
   [ ! "$start" -nt "$product" ] || touch -r "$start" "$product"
