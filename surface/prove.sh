@@ -51,8 +51,8 @@ count_along() {
   done
 }
 
-# look_over PRODUCT COMMAND CRATE: sets `all`, the crates that a product is made of; `touched`, those of them that are not
-# proved or have changed; and `late`, not empty if one of the others was proved after the product was made.
+# look_over PRODUCT COMMAND CRATE: sets `all`, the crates that a product is made of; `touched`, those of them that are
+# not proved or have changed; and `late`, not empty if one of the others was proved after the product was made.
 look_over() {
   local name proof
   all=() touched='' late=''
