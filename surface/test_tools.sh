@@ -125,6 +125,12 @@ proves_when_needed() {
   made 1
   ends 0 ./run lone
   made 0
+  touch target/stamp/tables # as if it had been proved by itself since
+  ends 0 ./run lone
+  said err '^run: building the listing program from 16 proved crates$'
+  made 1
+  ends 0 ./run lone
+  made 0
 }
 
 # flags OPTION FIELD: what pkg-config answers for the installed library, or the file's own field where there is none.
@@ -137,15 +143,16 @@ flags() {
   fi
 }
 
-# used NAME: surface/NAME.c, compiled in a folder of its own against the installed library with pkg-config's flags only.
+# used NAME: surface/NAME.c, taken out of the repository and compiled against the installed library with pkg-config's
+# flags only, prints what it is to print.
 used() {
   local include libs
   read -r -a include < <(flags --cflags Cflags)
   read -r -a libs < <(flags --libs Libs)
-  cp "$root/surface/$1.c" "$prefix/$1.c"
-  compile "$prefix/$1.c" "$prefix/$1.o" "${include[@]}"
-  link_with "$prefix/$1" "$prefix/$1.o" "${libs[@]}"
-  prints "$1" "$prefix/$1"
+  cp "$root/surface/$1.c" "$room/$1.c"
+  compile "$room/$1.c" "$room/$1.o" "${include[@]}"
+  link_with "$room/$1" "$room/$1.o" "${libs[@]}"
+  prints "$1" "$room/$1"
 }
 
 # One version everywhere.
@@ -162,10 +169,10 @@ test_version() {
 test_installed_listing() {
   local list=$prefix/bin/kanzhulet-list PATH=$PATH
   if [ "$machine" != x86_64 ]; then
-    mkdir -p "$prefix/system/lib"
-    ln -s "$kit/lib" "$prefix/system/lib64"
-    ln -s "$kit/lib" "$prefix/system/lib/x86_64-linux-gnu"
-    export QEMU_LD_PREFIX=$prefix/system
+    mkdir -p "$room/system/lib"
+    ln -s "$kit/lib" "$room/system/lib64"
+    ln -s "$kit/lib" "$room/system/lib/x86_64-linux-gnu"
+    export QEMU_LD_PREFIX=$room/system
     PATH=$kit/bin:$PATH
   fi
   lists 0 "$(run longest text)" "$list" "$build/longest.stream"
@@ -175,14 +182,14 @@ test_installed_listing() {
 }
 
 test_install() {
-  prefix=$(mktemp -d)
-  trap 'rm -rf "$prefix"' EXIT
+  room=$(mktemp -d)
+  trap 'rm -rf "$room"' EXIT
+  prefix=$room/not/there
   ends 2 "$root/install"
   ends 2 "$root/install" --prefix
   ends 0 "$root/install" --help
   said out '^usage: ./install PREFIX$'
-  ends 0 "$root/install" "$prefix/deep/er"
-  prefix=$prefix/deep/er
+  ends 0 "$root/install" "$prefix"
   used example
   used short
   test_version
