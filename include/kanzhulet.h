@@ -37,7 +37,7 @@ extern "C" {
 #endif
 
 /* The library's version, as pkg-config and the Rust wrapper give it too. */
-#define KZ_VERSION "0.2.0"
+#define KZ_VERSION "0.3.0"
 
 /* The limits, and the rooms that are long enough for every map. */
 enum {
@@ -76,7 +76,7 @@ enum {
     KZ_NOT_REACHED = 9,   /* a dart not reached from the root                   the least such dart */
     KZ_PAST_END = 10,     /* page start past the stream's end                   the stream's length */
     KZ_CUT = 11,          /* the stream ended early                             steps done */
-    KZ_INDEX = 12,        /* a named dart is not allowed there                  steps done */
+    KZ_INDEX = 12,        /* only a record lent as refused with it              as lent */
     KZ_TOO_MANY = 13,     /* a new dart when n are numbered                     steps done */
     KZ_TAKEN = 14,        /* a deduced partner has a link already               steps done */
     KZ_TOO_FEW = 15,      /* the walk ended with fewer than n darts             steps done */
@@ -84,7 +84,10 @@ enum {
     KZ_FILL = 17,         /* a fill bit of the last byte is set                 steps done */
     KZ_BYTE_AFTER = 18,   /* a byte after the end                               steps done */
     KZ_UNFIT = 19,        /* the record is no session that can go on            0 */
-    KZ_CLOSED = 20        /* the session is closed                              0 */
+    KZ_CLOSED = 20,       /* the session is closed                              0 */
+    KZ_NOT_NUMBERED = 21, /* a named dart has no number yet                     steps done */
+    KZ_ITSELF = 22,       /* a named dart is the dart itself                    steps done */
+    KZ_LINKED = 23        /* a named dart has a link at this rank already       steps done */
 };
 
 /*
@@ -124,11 +127,12 @@ uint32_t kz_write(uint64_t dim, uint64_t darts, uint64_t root, uint64_t start,
  * builds that map under its walk numbering.
  *
  * answer: number, place, steps done, N, n. On a refusal steps is the place, N and n are 0.
- * Order of tests: 1 and 3 once both header bytes are there; then 11 to 14 by step; at the end 15, 16, 17, 18.
+ * Order of tests: 1 and 3 once both header bytes are there; then by step 11, 13, 14, and for a dart that the stream
+ * names 21, 22, 23; at the end 15, 16, 17, 18. 12 is never given.
  * tables: any length; 3 if it is less than the (N+1)*n of the stream's header. What is past (N+1)*n is not written.
  *   0        the first (N+1)*n are the map's
  *   1, 3, and 11 before both header bytes are there    unchanged
- *   11 after that, and 12 to 18                        the first (N+1)*n are KZ_NO_LINK
+ *   11 after that, 13 to 18 and 21 to 23               the first (N+1)*n are KZ_NO_LINK
  */
 uint32_t kz_read(const uint8_t *bytes, size_t bytes_length,
                  uint16_t *tables, size_t tables_length,
@@ -153,7 +157,8 @@ void kz_open(uint32_t record[KZ_RECORD]);
  *
  * answer: number, place, steps done so far, N, n; 0 also where the session waits for more. N and n are 0 until a header
  *         is accepted, and on a refusal, where steps is the place.
- * Order of tests: 19, 20, then as kz_read but for 11. A refused session repeats its refusal.
+ * Order of tests: 19, 20, then as kz_read but for 11. A refused session repeats its refusal; 12 is answered only so, to
+ *         a record that was lent as refused with it.
  * tables: as for kz_read; unchanged by 19, 20 and a repeated refusal. A header that is accepted fills the first (N+1)*n
  *         with KZ_NO_LINK, then links are set.
  * record: after 19, 20 and a repeated refusal as given; after any other refusal state 4 with number and place, all else

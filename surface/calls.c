@@ -29,7 +29,7 @@ static const struct reading readings[] = {
     { "P6", "70 00", 16, 1, 0, 0, 0 },
     { "P7", "10 00 00", 2, 13, 0, 0, 0 },
     { "P8", "10 01 A0", 4, 15, 2, 0, 0 },
-    { "P9", "10 01 C0 00", 4, 12, 0, 0, 0 },
+    { "P9", "10 01 C0 00", 4, 22, 0, 0, 0 },
     { "P10", "20 02 A2 80", 9, 14, 8, 0, 0 },
     { "P11", "30 07 45 41 80 3D 00", 32, 16, 32, 0, 0 },
     { "P12", "10 00 A1", 2, 17, 2, 0, 0 },
@@ -58,11 +58,11 @@ static const struct reading readings[] = {
     { "lone dart in 6", "60 00 AA A8", 7, 0, 0, 6, 1 },
     { "no fill, a byte after", "30 00 AA 00", 4, 18, 4, 0, 0 },
     { "last fill bit", "60 00 AA A9", 7, 17, 7, 0, 0 },
-    /* A named dart: judged once its twelve bits are in; not the dart itself (P9), not one without number, not one that
+    /* A named dart: judged once its twelve bits are in; not one without number, not the dart itself (P9), not one that
        is linked. */
     { "index not all there", "10 01 FF", 4, 11, 0, 0, 0 },
-    { "index without number", "10 02 60 0A", 6, 12, 2, 0, 0 },
-    { "index linked already", "10 03 18 00 00", 8, 12, 5, 0, 0 },
+    { "index without number", "10 02 60 0A", 6, 21, 2, 0, 0 },
+    { "index linked already", "10 03 18 00 00", 8, 23, 5, 0, 0 },
     /* Disagreement with a larger i is found at the end, not at the step. */
     { "smallest 16", "20 03 91 58 01 80", 12, 16, 12, 0, 0 },
     /* Of several faults at the end the first of 15, 16, 17, 18; a byte after the end is 18 whatever it holds. */
@@ -298,7 +298,7 @@ static void index_waits_for_its_last_bit(void)
     give("10 01 C1");
     expect_reading(0, 1, 2);
     expect_record(waits);
-    EXPECT(give("00"), KZ_INDEX, 0);
+    EXPECT(give("00"), KZ_NOT_NUMBERED, 0);
 }
 
 static void empty_page_changes_nothing(void)
@@ -388,6 +388,8 @@ static const struct lent unfit[] = {
     { "refused by 3 at 1", { 4, 3, 1 }, 0, { 0 } },
     { "refused by 19", { 4, 19, 0 }, 0, { 0 } },
     { "refused by 20", { 4, 20, 0 }, 0, { 0 } },
+    { "refused by 24", { 4, 24, 0 }, 0, { 0 } },
+    { "refused by 25", { 4, 25, 0 }, 0, { 0 } },
     { "running in dimension 0", { 1, 0, 0, 0, 2, 1 }, 4, { NO, NO, NO, NO } },
     { "running in dimension 7", { 1, 0, 0, 7, 2, 1 }, 4, { NO, NO, NO, NO } },
     { "running without darts", { 1, 0, 0, 1, 0, 1 }, 4, { NO, NO, NO, NO } },
@@ -432,10 +434,13 @@ static void lent_refusals_and_closed_records(void)
     lend_record(refused, 4, tables);
     EXPECT(give("10 01 50"), KZ_CUT, 4000000000u);
     EXPECT(call_close(), KZ_CUT, 4000000000u);
-    for (numbers[1] = KZ_CUT; numbers[1] <= KZ_BYTE_AFTER; numbers[1]++) {
+    for (numbers[1] = KZ_CUT; numbers[1] <= KZ_LINKED; numbers[1]++) {
+        if (numbers[1] == KZ_UNFIT || numbers[1] == KZ_CLOSED)
+            continue;
         numbers[2] = 3 * numbers[1];
         lend_record(numbers, 4, tables);
         EXPECT(give("80"), numbers[1], numbers[2]);
+        EXPECT(call_close(), numbers[1], numbers[2]);
     }
     lend_record(closed, 4, tables);
     EXPECT(give("10 01 50"), KZ_CLOSED, 0);
@@ -830,13 +835,13 @@ static void longest_stream(void)
 /* Every number has a text of its own, with what its place is; all that are no refusal's share one. */
 static void every_number_has_a_text(void)
 {
-    const uint32_t none = KZ_CLOSED + 1;
+    const uint32_t none = NUMBERS;
     uint32_t number, other;
     what = "the texts of the numbers";
     for (number = 0; number <= none; number++)
         for (other = 0; other < number; other++)
             CHECK(strcmp(kz_message(number), kz_message(other)) != 0);
-    for (number = KZ_ACCEPTED + 1; number <= KZ_CLOSED; number++)
+    for (number = KZ_ACCEPTED + 1; number < NUMBERS; number++)
         CHECK(strstr(kz_message(number), " (place: ") != NULL);
     CHECK(strcmp(kz_message(none), kz_message(~(uint32_t)0)) == 0);
 }
@@ -844,8 +849,8 @@ static void every_number_has_a_text(void)
 static void every_number_was_seen(void)
 {
     int k;
-    what = "every number from 0 to 20 was answered";
-    for (k = 0; k <= KZ_CLOSED; k++)
+    what = "every number from 0 to 23 was answered";
+    for (k = 0; k < NUMBERS; k++)
         CHECK(seen[k]);
 }
 

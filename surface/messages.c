@@ -17,7 +17,7 @@ static const char *const messages[] = {
     [KZ_NOT_REACHED] = "a dart is not reached from the root (place: the least such dart)",
     [KZ_PAST_END] = "the page starts past the stream's end (place: the stream's length)",
     [KZ_CUT] = "the stream ended early (place: the steps done)",
-    [KZ_INDEX] = "the stream names a dart that is not allowed there (place: the steps done)",
+    [KZ_INDEX] = "the record was lent as refused with 12, which no reading gives any more (place: as lent)",
     [KZ_TOO_MANY] = "the stream has more darts than its header says (place: the steps done)",
     [KZ_TAKEN] = "a link that follows from others is taken already (place: the steps done)",
     [KZ_TOO_FEW] = "the stream has fewer darts than its header says (place: the steps done)",
@@ -26,6 +26,9 @@ static const char *const messages[] = {
     [KZ_BYTE_AFTER] = "a byte follows the stream's end (place: the steps done)",
     [KZ_UNFIT] = "the record is no session that can go on with these tables (place: 0)",
     [KZ_CLOSED] = "the session is closed (place: 0)",
+    [KZ_NOT_NUMBERED] = "the stream names a dart that has no number yet (place: the steps done)",
+    [KZ_ITSELF] = "the stream names the dart itself (place: the steps done)",
+    [KZ_LINKED] = "the stream names a dart that has a link at this rank already (place: the steps done)",
 };
 
 const char *kz_message(uint32_t number)

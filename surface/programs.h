@@ -179,6 +179,8 @@ static size_t compare_writes(struct posting p, size_t size)
     return length;
 }
 
+static unsigned long reads_by[NUMBERS]; /* how many of the reads compared were answered by each number */
+
 static void compare_read(const uint8_t *bytes, size_t length, size_t tables)
 {
     int k;
@@ -186,6 +188,18 @@ static void compare_read(const uint8_t *bytes, size_t length, size_t tables)
     for (k = 0; k < PROGRAMS; k++)
         programs[k].read(bytes, length, sides[k].tables, tables, sides[k].answer);
     same_sides("read");
+    reads_by[sides[LIBRARY].answer[0]]++;
+}
+
+/* Every number that a reading finds was met, and no other. */
+static void all_reads_met(void)
+{
+    uint32_t k;
+    for (k = 0; k < NUMBERS; k++)
+        if ((reads_by[k] > 0) != (k == 0 || is_found(k))) {
+            printf("bench: %lu of the reads compared were answered by %u\n", reads_by[k], (unsigned)k);
+            exit(1);
+        }
 }
 
 static void compare_page(const uint8_t *bytes, size_t length, size_t tables)
@@ -337,6 +351,8 @@ static const uint8_t known_streams[][7] = {
     { 0x30, 0x07, 0x45, 0x41, 0x80, 0x3D, 0x01 },
     { 0x20, 0x03, 0x91, 0x58, 0x01, 0x80 },
     { 0x10, 0x01, 0xC0, 0x00 },
+    { 0x10, 0x02, 0x60, 0x0A },
+    { 0x10, 0x03, 0x18, 0x00, 0x00 },
     { 0x10, 0x01, 0xA1, 0x00 },
     { 0x10, 0x00, 0xA1, 0x00 },
     { 0x10, 0x00, 0xA0, 0xFF },
@@ -375,6 +391,7 @@ static void compare_small(void)
     }
     compare_spoiled_maps(2000);
     compare_spoiled_streams(1000);
+    all_reads_met();
 }
 
 #endif

@@ -362,7 +362,11 @@ static uint32_t read_named(struct ref_session *session, const uint16_t *aj, uint
 {
     *partner = first_bits(session, 14) & 4095;
     drop_bits(session, 14);
-    return *partner < session->count && *partner != b && aj[*partner] == NO_LINK ? DONE : 12;
+    if (*partner >= session->count)
+        return 21;
+    if (*partner == b)
+        return 22;
+    return aj[*partner] == NO_LINK ? DONE : 23;
 }
 
 /* The symbol for aj(b). */

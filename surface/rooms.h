@@ -13,7 +13,8 @@
 
 static unsigned long checks, failures;
 static const char *what = "";  /* the case at hand */
-static int seen[KZ_CLOSED + 1]; /* the numbers that some call has answered */
+enum { NUMBERS = KZ_LINKED + 1 }; /* 0 and the refusal numbers */
+static int seen[NUMBERS];         /* those that some call has answered */
 
 enum { TOLD = 50 }; /* so many failures are told, all are counted */
 
@@ -187,9 +188,9 @@ static void after_answer(uint32_t number, unsigned may_change, uint32_t least, u
     after_call(may_change | 1u << ANSWER);
     CHECK(number == answer[0]);
     CHECK(number == 0 || (number >= least && number <= most));
-    if (number <= KZ_CLOSED)
+    if (number < NUMBERS)
         seen[number] = 1;
-    if (number <= KZ_ROOT || number >= KZ_UNFIT)
+    if (number <= KZ_ROOT || number == KZ_UNFIT || number == KZ_CLOSED)
         CHECK(answer[1] == 0);
 }
 
@@ -283,9 +284,17 @@ static size_t header_entries(const uint32_t *given, const uint8_t *bytes, size_t
     return (size_t)((first >> 4) + 1) * ((first & 15) * 256 + second + 1);
 }
 
+/* The numbers that a reading finds; 12 is none of them. */
+static int is_found(uint32_t number)
+{
+    return number == KZ_DIMENSION || number == KZ_SHORT_TABLES || number == KZ_CUT ||
+           (number >= KZ_TOO_MANY && number <= KZ_BYTE_AFTER) || (number >= KZ_NOT_NUMBERED && number <= KZ_LINKED);
+}
+
 /* After a reading call that was not answered 19, 20 or by a refusal of before. */
 static void after_reading(uint32_t number, size_t entries)
 {
+    CHECK(number == 0 || is_found(number));
     if (number == KZ_DIMENSION || number == KZ_SHORT_TABLES)
         CHECK(KEPT(built));
     else
@@ -303,9 +312,8 @@ static uint32_t call_read(void)
     LEND(answer, KZ_READ_ANSWER);
     before_call();
     number = kz_read(page, LENGTH(page), built, LENGTH(built), answer);
-    after_answer(number, 1u << BUILT, KZ_DIMENSION, KZ_BYTE_AFTER);
+    after_answer(number, 1u << BUILT, KZ_DIMENSION, KZ_LINKED);
     after_reading(number, entries);
-    CHECK(number == 0 || number == KZ_DIMENSION || number == KZ_SHORT_TABLES || number >= KZ_CUT);
     if (number == 0) {
         CHECK(answer[2] == entries && (answer[3] + 1) * answer[4] == entries);
         CHECK(entries <= LENGTH(built) && all_below(built, entries, answer[4]));
@@ -335,6 +343,7 @@ static void after_session(uint32_t number, size_t entries)
     if (answered_as_before(number)) {
         CHECK(KEPT(record) && KEPT(built));
         CHECK(answer[2] == answer[1] && answer[3] == 0 && answer[4] == 0);
+        CHECK(number == KZ_UNFIT || number == KZ_CLOSED || (number == record_was[1] && answer[1] == record_was[2]));
         return;
     }
     after_reading(number, entries);
@@ -356,7 +365,7 @@ static uint32_t call_page(void)
     LEND(answer, KZ_READ_ANSWER);
     before_call();
     number = kz_page(record, page, LENGTH(page), built, LENGTH(built), answer);
-    after_answer(number, 1u << RECORD | 1u << BUILT, KZ_DIMENSION, KZ_CLOSED);
+    after_answer(number, 1u << RECORD | 1u << BUILT, KZ_DIMENSION, KZ_LINKED);
     after_session(number, header_entries(record_was, page, LENGTH(page)));
     CHECK(number != KZ_CUT || record_was[0] == 4);
     CHECK(number != 0 || record[0] <= 2);
@@ -369,7 +378,7 @@ static uint32_t call_close(void)
     LEND(answer, KZ_READ_ANSWER);
     before_call();
     number = kz_close(record, built, LENGTH(built), answer);
-    after_answer(number, 1u << RECORD | 1u << BUILT, KZ_DIMENSION, KZ_CLOSED);
+    after_answer(number, 1u << RECORD | 1u << BUILT, KZ_DIMENSION, KZ_LINKED);
     after_session(number, header_entries(record_was, page, 0));
     CHECK(number == 0 || number == KZ_CUT || answered_as_before(number));
     if (number == 0)

@@ -49,6 +49,9 @@ test_listing() {
   bring_program
   printf '' | lists 1 'refused 11 at 0' "$root/run"
   printf '\x70\x00' | lists 1 'refused 1 at 0' "$root/run"
+  printf '\x10\x02\x60\x0A' | lists 1 'refused 21 at 2' "$root/run"
+  printf '\x10\x01\xC0\x00' | lists 1 'refused 22 at 0' "$root/run"
+  printf '\x10\x03\x18\x00\x00' | lists 1 'refused 23 at 5' "$root/run"
   { printf '\x10\x00\xA0'; head -c 60000 /dev/zero; } | lists 1 'refused 18 at 2' "$root/run"
   { printf '\x1F\xFF'; head -c 60000 /dev/zero; } | lists 1 'refused 13 at 8189' "$root/run"
   run longest stream >"$build/longest.stream"

@@ -5,7 +5,7 @@
 int main(void)
 {
     uint32_t number;
-    for (number = 0; number <= KZ_CLOSED; number++)
+    for (number = 0; number <= KZ_LINKED; number++)
         printf("| %u | %s |\n", (unsigned)number, kz_message(number));
     return 0;
 }

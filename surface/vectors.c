@@ -6,11 +6,13 @@
  * A file's name says what its lines are; `kinds` has the names. For each file this is printed, and the exit status is
  * 0 only if every file could be read and had cases, of which none differs:
  *
- *   reading.txt: 900 cases, 0 differ
- *     met 0:291 3:127 11:135 12:109 13:119 14:12 15:10 17:24 18:73
+ *   reading.txt: 1250 cases, 0 differ
+ *     met 0:327 1:37 3:138 11:173 13:143 14:33 15:30 16:63 17:29 18:79 21:125 22:36 23:37
  *
  * `met` counts the cases by the number that the library answered. What differs and what cannot be read follows, the
- * first ten in words.
+ * first ten in words. The last line counts, over all files, every call by its number, where a case may make many:
+ *
+ *   calls by number 0:.. 1:.. 2:..
  */
 #include "kanzhulet.h"
 #include "vectors_lines.h"
@@ -38,42 +40,52 @@ static size_t work_length(uint64_t darts)
 
 /* The calls, with the rooms that are lent. */
 
+static unsigned long calls_by[NUMBERS]; /* how many calls of all files were answered by each number */
+
+static uint32_t count_call(uint32_t number)
+{
+    if (number < NUMBERS)
+        calls_by[number]++;
+    return number;
+}
+
 struct posted {
     uint64_t dim, darts, root;
 };
 
 static uint32_t call_check(const struct posted *p)
 {
-    return kz_check(p->dim, p->darts, p->root, entries_of(&tables), tables.length, entries_of(&work), work.length,
-                    numbers_of(&answer));
+    return count_call(kz_check(p->dim, p->darts, p->root, entries_of(&tables), tables.length, entries_of(&work),
+                               work.length, numbers_of(&answer)));
 }
 
 static uint32_t call_write(const struct posted *p, uint64_t start)
 {
-    return kz_write(p->dim, p->darts, p->root, start, entries_of(&tables), tables.length, entries_of(&work),
-                    work.length, bytes_of(&out), out.length, numbers_of(&answer));
+    return count_call(kz_write(p->dim, p->darts, p->root, start, entries_of(&tables), tables.length,
+                               entries_of(&work), work.length, bytes_of(&out), out.length, numbers_of(&answer)));
 }
 
 static uint32_t call_report(const struct posted *p)
 {
-    return kz_report(p->dim, p->darts, entries_of(&tables), tables.length, entries_of(&work), work.length,
-                     numbers_of(&answer));
+    return count_call(kz_report(p->dim, p->darts, entries_of(&tables), tables.length, entries_of(&work), work.length,
+                                numbers_of(&answer)));
 }
 
 static uint32_t call_read(void)
 {
-    return kz_read(bytes_of(&stream), stream.length, entries_of(&tables), tables.length, numbers_of(&answer));
+    return count_call(kz_read(bytes_of(&stream), stream.length, entries_of(&tables), tables.length,
+                              numbers_of(&answer)));
 }
 
 static uint32_t call_page(void)
 {
-    return kz_page(numbers_of(&record), bytes_of(&page), page.length, entries_of(&tables), tables.length,
-                   numbers_of(&answer));
+    return count_call(kz_page(numbers_of(&record), bytes_of(&page), page.length, entries_of(&tables), tables.length,
+                              numbers_of(&answer)));
 }
 
 static uint32_t call_close(void)
 {
-    return kz_close(numbers_of(&record), entries_of(&tables), tables.length, numbers_of(&answer));
+    return count_call(kz_close(numbers_of(&record), entries_of(&tables), tables.length, numbers_of(&answer)));
 }
 
 /* After the call that answers a case. */
@@ -417,5 +429,7 @@ int main(int argc, char **argv)
         printf("usage: vectors FILE...\n");
     for (k = 1; k < argc; k++)
         well &= run_file(argv[k]);
+    printf("calls by number");
+    say_counts(calls_by);
     return well ? 0 : 1;
 }

@@ -215,16 +215,23 @@ static void end_line(struct tally *t, const struct line *l)
     t->differs = 0;
 }
 
+/* The numbers that were met, each with its count, to the line's end. */
+static void say_counts(const unsigned long *met)
+{
+    unsigned k;
+    for (k = 0; k < NUMBERS; k++)
+        if (met[k] > 0)
+            printf(" %u:%lu", k, met[k]);
+    putchar('\n');
+}
+
 /* The report of a file; is all well with it? */
 static int say_tally(const struct tally *t, const char *name)
 {
     unsigned long faults = t->differ + t->unread;
     unsigned k;
     printf("%s: %lu cases, %lu differ\n  met", name, t->cases, t->differ);
-    for (k = 0; k < NUMBERS; k++)
-        if (t->met[k] > 0)
-            printf(" %u:%lu", k, t->met[k]);
-    putchar('\n');
+    say_counts(t->met);
     for (k = 0; k < t->told; k++)
         printf("  %s\n", t->notes[k]);
     if (faults > t->told)

@@ -21,7 +21,7 @@ use Rattle.rules.specs.Lists.{allBelow}
 use Rattle.rules.specs.Map.{dimFits, dartsFit, size, place, link, Limits}
 use Rattle.rules.specs.Walk.{head}
 use Rattle.rules.specs.Stream.{bitsOf}
-use Rattle.rules.specs.Refusals.{among, atHeader, inStep, atEnd, wipes, fitRefused}
+use Rattle.rules.specs.Refusals.{among, atHeader, ofIndex, inStep, atEnd, wipes, fitRefused}
 use Rattle.rules.specs.Session.{walkAt, standOf, walkOf, waitingOf, valueFits, onlyBits, positionsFit, entryFits, entriesFit, walkFits, asks, begins}
 use Rattle.rules.specs.Session.{allDone, fitAs, fit}
 use Rattle.rules.proofs.Lists.{and-left, and-right, or-left, or-right, not-both, all-below, below-all, below-same}
@@ -327,11 +327,11 @@ begins-more k x h h0 h1 =
 -- a refusal
 module _ (nr p : ℕ) where
   pub refusal-first : nr ≡ 1 → eqb p 0 ≡ fitRefused nr p
-  unfolding fitRefused atHeader wipes inStep atEnd among
+  unfolding fitRefused atHeader wipes ofIndex inStep atEnd among
   refusal-first e = rw (e, or-no)
 
   pub refusal-third : nr ≡ 3 → eqb p 0 ≡ fitRefused nr p
-  unfolding fitRefused atHeader wipes inStep atEnd among
+  unfolding fitRefused atHeader wipes ofIndex inStep atEnd among
   refusal-third e = rw (e, or-no)
 
   pub refusal-other : nr ≢ 1 → nr ≢ 3 → (r : Bool) → r ≡ wipes nr → r ≡ fitRefused nr p

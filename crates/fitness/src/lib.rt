@@ -344,6 +344,9 @@ pub fn wipes(number: u32) -> bool
         16 => true,
         17 => true,
         18 => true,
+        21 => true,
+        22 => true,
+        23 => true,
         _ => false,
     }
 }

@@ -20,6 +20,7 @@ use Rattle.rules.specs.Lists.{listOf, someBelow, first}
 use Rattle.rules.specs.Map.{dimFits, dartsFit, size, link, pairs, pairsFor, pairsOf, pairAt, broken, firstBroken, allRanks, spread, within, reaches}
 use Rattle.rules.specs.Walk.{Walk, start, Head, head, unknown, Partner, partner, pass, tie, steps, Symbol, apply, enough, Walked, namesOf}
 use Rattle.rules.specs.Stream.{value, unpack, Taken, takeSymbol}
+use Rattle.rules.specs.Naming.{naming}
 use Rattle.rules.specs.Check.{Verdict, refuseIf, outside, twisted, unreached, tablesVerdict, verdict, numbering, workAfter, checkAnswerOf}
 use Rattle.rules.specs.Check.{checkAnswer, checkWork}
 use Rattle.rules.specs.Writing.{startVerdict, writeVerdict, pageAfter, writeAnswerOf, writePage, writeAnswer, writeOut, writeWork}
@@ -273,6 +274,12 @@ module _ (w : Walk) (x : List ℕ) (v : Inv w) (bs : List Bool) where
   permitted-tailed j b Symbol.border hj = refl
   permitted-tailed j b (Symbol.index e) hj = rw (link-tailed w x (v .shape) j e hj) (unfold tailed in refl)
 
+  fault-tailed : (j b : ℕ) (s : Symbol) → j ≤ w .dim → fault (tailed w x) j b s ≡ fault w j b s
+  unfolding fault naming unknown
+  fault-tailed j b Symbol.new hj = refl
+  fault-tailed j b Symbol.border hj = refl
+  fault-tailed j b (Symbol.index e) hj = rw (link-tailed w x (v .shape) j e hj) (unfold tailed in refl)
+
   -- a step of the reader is the same with more entries behind
   step-carried : step (tailed w x) bs ≡ stepTailed x (step w bs)
   unfolding step tailed
@@ -281,8 +288,8 @@ module _ (w : Walk) (x : List ℕ) (v : Inv w) (bs : List Bool) where
       taken : (j b : ℕ) → Next w j b → (k : Taken) → stepTaken (tailed w x) bs j b k ≡ stepTailed x (stepTaken w bs j b k)
       taken j b n Taken.short = unfold stepTaken stepTailed runTailed in refl
       taken j b n (Taken.symbol s rest) = unfold stepTaken in
-          rw (permitted-tailed j b s (n .ranked))
-          (allow-tailed (permitted w j b s) (fault s) (apply w j b s) (apply (tailed w x) j b s) rest (λ p. apply-tailed w x v j b s n p))
+          rw (permitted-tailed j b s (n .ranked), fault-tailed j b s (n .ranked))
+          (allow-tailed (permitted w j b s) (fault w j b s) (apply w j b s) (apply (tailed w x) j b s) rest (λ p. apply-tailed w x v j b s n p))
 
       with' : (j b : ℕ) → head w ≡ Head.at j b → (p : Partner) → partner w j b ≡ p → stepWith (tailed w x) bs j b p ≡ stepTailed x (stepWith w bs j b p)
       with' j b h Partner.known p = unfold stepWith stepTailed pass in refl

@@ -13,17 +13,21 @@ among (x ∷ l) nr = eqb nr x || among l nr
 unfoldable pub atHeader : ℕ → Bool
 atHeader nr = among (1 ∷ 3 ∷ []) nr
 
--- found in a step
+-- says what is wrong with a w
+unfoldable pub ofIndex : ℕ → Bool
+ofIndex nr = among (21 ∷ 22 ∷ 23 ∷ []) nr
+
+-- found in a step: of a w, of an N, of a deduced partner
 unfoldable pub inStep : ℕ → Bool
-inStep nr = among (12 ∷ 13 ∷ 14 ∷ []) nr
+inStep nr = ofIndex nr || among (13 ∷ 14 ∷ []) nr
 
 -- found at the walk's end
 unfoldable pub atEnd : ℕ → Bool
 atEnd nr = among (15 ∷ 16 ∷ 17 ∷ 18 ∷ []) nr
 
--- wipes the tables, with the steps done as its place: closing too early, in a step, at the end
+-- wipes the tables, with the steps done as its place: closing too early, in a step, at the end; and 12, which no reading finds any more
 unfoldable pub wipes : ℕ → Bool
-wipes nr = eqb nr 11 || inStep nr || atEnd nr
+wipes nr = eqb nr 11 || eqb nr 12 || inStep nr || atEnd nr
 
 -- fit when refused, with this place
 unfoldable pub fitRefused : ℕ → ℕ → Bool

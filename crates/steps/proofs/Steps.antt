@@ -2,29 +2,33 @@
 use Prim.Native.Nat.{ℕ, suc, _+_, _≤_, _<_}
 use mathlib.Core.Path.{_≡_, refl, sym, _∙_}
 use mathlib.Core.Logic.{_≢_}
-use mathlib.Core.Bool.{Bool, true, false, not, _&&_}
+use mathlib.Core.Bool.{Bool, true, false}
 use mathlib.Core.List.{List, [], _∷_}
 use native.Mathlib.Numerals.{add-one}
 use native.Mathlib.Omega.{arith}
 use lib.ListN.{length, getD, set, replicate}
-use lib.Dec.{eqb, ltb}
-use borrow.Author.Tests.{ltb-true, eq-eqb, ne-eqb}
+use lib.Dec.{ltb}
+use borrow.Author.Tests.{eq-eqb, ne-eqb, not-true}
 use Rattle.rules.specs.Map.{mark, size, place, link, blank, Limits}
 use Rattle.rules.specs.Walk.{Walk, start, linkOf, unknown, Partner, partner, pass, join, fresh, tie, Symbol, apply}
+use Rattle.rules.specs.Naming.{naming, namingNumber}
+use Rattle.rules.specs.Refusals.{ofIndex}
 use Rattle.rules.specs.Reading.{Step, permitted, fault, allow}
 use Rattle.rules.specs.Session.{queuesOf, walkAt}
 use Rattle.rules.specs.Inner.{Shape, Emptied, Lowest, Inv}
+use Rattle.rules.specs.declared.Naming.{Naming}
+use Rattle.rules.specs.declared.Naming.the-variants.{Allowed}
 use Rattle.rules.specs.declared.Stand.{Stand}
-use Rattle.rules.proofs.Lists.{and-left}
 use Rattle.rules.proofs.Places.{place-below}
 use Rattle.rules.proofs.Lowest.{head-lowest, emptied-none, emptied-passed}
 use Rattle.rules.proofs.Walks.{start-inv, next-of, deduced-below}
-use Rattle.rules.proofs.Moves.{Move, moved, see-deduced}
+use Rattle.rules.proofs.Moves.{Move, moved, Named, index-named, see-deduced}
+use Rattle.rules.proofs.Causes.{Says, naming-says, three-causes}
 use Rattle.rules.proofs.Fitness.{queues-of}
 use Rattle.steps.specs.declared.Stepped.the-variants.{On, Refused}
 use Rattle.steps.specs.declared.Case.{Case}
 use Rattle.steps.specs.Partners.{partnerFor, toldPartner}
-use Rattle.steps.specs.Steps.{stand, mayName, Tied, HeadCase, deducedStep, symbolStep, toldStep, Lower, Steps}
+use Rattle.steps.specs.Steps.{stand, namingFor, Tied, HeadCase, deducedStep, symbolStep, toldStep, Lower, Steps}
 use Rattle.steps.proofs.Partners.{partner-looking}
 
 -- a link's place is within the tables
@@ -165,7 +169,7 @@ module _ {N n k : ℕ} {ps t : List ℕ} {j b : ℕ} (v : HeadCase N n k ps t j 
   unfolding allow
   on x h rank k' ps' t' e l = goes v (symbolStep j b x) (apply (here v) j b x) (λ rest. rw h) rank k' ps' t' e l
 
-  off : (x : Symbol) → permitted (here v) j b x ≡ false → Steps N n k ps t (symbolStep j b x) (Refused (fault x)) ps t
+  off : (x : Symbol) → permitted (here v) j b x ≡ false → Steps N n k ps t (symbolStep j b x) (Refused (fault (here v) j b x)) ps t
   unfolding toldStep Lower allow
   off x h = record { tells = λ rest. rw h; lower = tt }
 
@@ -175,27 +179,34 @@ module _ {N n k : ℕ} {ps t : List ℕ} {j b : ℕ} (v : HeadCase N n k ps t j 
       on Symbol.border refl j k ps' t'
       (walk-tied v (Symbol.border ∷ []) b (Move.reads j b Symbol.border (v .heads) (v .case) refl) ps' t' x) (still-empty v ps' (x .positions))
 
-  module _ (e : ℕ) (y : Bool) (ey : y ≡ mayName N n t k j b e) where
-    named : permitted (here v) j b (Symbol.index e) ≡ y
-    unfolding permitted unknown linkOf walkAt
+  module _ (e : ℕ) (y : Naming) (ey : y ≡ namingFor N n t k j b e) where
+    named : naming (here v) j b e ≡ y
+    unfolding naming unknown linkOf walkAt
     named = sym ey
 
-    -- a dart that may be named is numbered
-    pub name-below : y ≡ true → e < k
-    name-below q =
-        let a = ltb e k && not (eqb e b) in
-        ltb-true e k (and-left (ltb e k) (not (eqb e b)) (and-left a (eqb (link N n t j e) mark) (sym ey ∙ q)))
+    may-name : y ≡ Allowed → Named (here v) j b e
+    may-name q = unfold Says in rw (named, q) at (naming-says (here v) j b e)
 
-    pub symbol-index : y ≡ true → (ps' t' : List ℕ) → Tied N n ps t j b e ps' t' → Steps N n k ps t (symbolStep j b (Symbol.index e)) (On j k) ps' t'
+    -- a dart that may be named is numbered
+    pub name-below : y ≡ Allowed → e < k
+    unfolding walkAt
+    name-below q = may-name q .below
+
+    pub symbol-index : y ≡ Allowed → (ps' t' : List ℕ) → Tied N n ps t j b e ps' t' → Steps N n k ps t (symbolStep j b (Symbol.index e)) (On j k) ps' t'
     unfolding apply
     symbol-index q ps' t' x =
-        on (Symbol.index e) (named ∙ q) j k ps' t'
-        (walk-tied v (Symbol.index e ∷ []) e (Move.reads j b (Symbol.index e) (v .heads) (v .case) (named ∙ q)) ps' t' x)
+        let p = index-named (here v) j b e (may-name q) in
+        on (Symbol.index e) p j k ps' t'
+        (walk-tied v (Symbol.index e ∷ []) e (Move.reads j b (Symbol.index e) (v .heads) (v .case) p) ps' t' x)
         (still-empty v ps' (x .positions))
 
-    pub symbol-12 : y ≡ false → Steps N n k ps t (symbolStep j b (Symbol.index e)) (Refused 12) ps t
-    unfolding fault
-    symbol-12 q = off (Symbol.index e) (named ∙ q)
+    -- any of the three causes refuses by its number
+    pub symbol-cause : (c : Naming) → y ≡ c → ofIndex (namingNumber c) ≡ true
+        → Steps N n k ps t (symbolStep j b (Symbol.index e)) (Refused (namingNumber c)) ps t
+    symbol-cause c q i =
+        let f : fault (here v) j b (Symbol.index e) ≡ namingNumber c = unfold fault in rw (named, q) in
+        let p = not-true (permitted (here v) j b (Symbol.index e)) (sym (three-causes (here v) j b e) ∙ rw f i) in
+        rw f at (off (Symbol.index e) p)
 
   module _ (y : Bool) (ey : y ≡ ltb k n) where
     pub symbol-new : y ≡ true → (ps' t' : List ℕ) → Tied N n ps t j b k ps' t' → Steps N n k ps t (symbolStep j b Symbol.new) (On 0 (k + 1)) ps' t'

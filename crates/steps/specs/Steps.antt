@@ -1,15 +1,16 @@
 -- A step as the code tells it: where it is made, the rules' step with any bits that are left, and what it leaves.
 use Prim.Native.Nat.{ℕ, _+_, _≤_, _<_}
 use mathlib.Core.Path.{_≡_}
-use mathlib.Core.Bool.{Bool, not, _&&_}
-use mathlib.Core.List.{List}
+use mathlib.Core.Bool.{Bool}
+use mathlib.Core.List.{List, []}
 use lib.ListN.{length, getD, set}
-use lib.Dec.{eqb, ltb}
-use Rattle.rules.specs.Map.{Limits, mark, place, link}
+use Rattle.rules.specs.Map.{Limits, place}
 use Rattle.rules.specs.Walk.{Walk, Head, head, unknown, Partner, partner, tie, Symbol, apply}
+use Rattle.rules.specs.Naming.{naming}
 use Rattle.rules.specs.Reading.{Run, Step, permitted, fault, allow}
 use Rattle.rules.specs.Session.{walkAt}
 use Rattle.rules.specs.Inner.{Emptied, Inv}
+use Rattle.rules.specs.declared.Naming.{Naming}
 use Rattle.rules.specs.declared.Stand.{Stand}
 use Rattle.steps.specs.declared.Stepped.{Stepped}
 use Rattle.steps.specs.declared.Stepped.the-variants.{On, Refused}
@@ -22,9 +23,9 @@ stand k ps = record { count = k; positions = ps }
 abbrev pub tablesJoined : ℕ → ℕ → List ℕ → ℕ → ℕ → ℕ → List ℕ
 tablesJoined N n t j b e = set (set t (place N n j b) e) (place N n j e) b
 
--- e is numbered, is not b, and has no link at rank j
-abbrev pub mayName : ℕ → ℕ → List ℕ → ℕ → ℕ → ℕ → ℕ → Bool
-mayName N n t count j b e = ltb e count && not (eqb e b) && eqb (link N n t j e) mark
+-- what a w says of the dart e, by the tables and the count alone
+abbrev pub namingFor : ℕ → ℕ → List ℕ → ℕ → ℕ → ℕ → ℕ → Naming
+namingFor N n t count j b e = naming (record { dim = N; darts = n; queues = []; links = t; count = count; positions = [] }) j b e
 
 -- aj(b) = e was made known, and b has left Lj
 pub record Tied (N n : ℕ) (ps t : List ℕ) (j b e : ℕ) (ps' t' : List ℕ) : Type 0 where
@@ -50,7 +51,7 @@ deducedStep j b e w rest = allow (unknown w j e) 14 w (tie w j b e) rest
 
 -- the rules' step by a symbol x
 abbrev pub symbolStep : ℕ → ℕ → Symbol → Walk → List Bool → Step
-symbolStep j b x w rest = allow (permitted w j b x) (fault x) w (apply w j b x) rest
+symbolStep j b x w rest = allow (permitted w j b x) (fault w j b x) w (apply w j b x) rest
 
 -- what a step came to with k darts numbered, as the rules tell it, by the positions and tables after it
 unfoldable pub toldStep : ℕ → ℕ → ℕ → Stepped → List ℕ → List ℕ → List Bool → Step

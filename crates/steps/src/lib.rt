@@ -1,5 +1,6 @@
 // One reading step over lent tables and positions: what is known of aj(b), and the step by a deduction or by a symbol.
 // Where a symbol comes from is no part of it.
+use rules::Naming;
 use rules::Session;
 use rules::Symbol;
 use rules::WalkNo;
@@ -8,10 +9,11 @@ ghost use Prim.Native.Nat.{_+_, _≤_, _<_};
 ghost use lib.ListN.{length, set};
 ghost use lib.Dec.{ltb};
 ghost use Rattle.rules.specs.Map.{Limits, link};
+ghost use Rattle.rules.specs.Walk as walk;
 ghost use Rattle.rules.specs.Walk.{Partner};
 ghost use Rattle.rules.specs.Symbols.{toldSymbol};
 ghost use Rattle.steps.specs.Partners.{deducedFor, partnerFor, toldPartner};
-ghost use Rattle.steps.specs.Steps.{tablesJoined, mayName, deducedStep, symbolStep, Tied, HeadCase, Steps};
+ghost use Rattle.steps.specs.Steps.{tablesJoined, namingFor, deducedStep, symbolStep, Tied, HeadCase, Steps};
 
 // The case of a step: what is to be done for aj(b).
 pub enum Case {
@@ -74,8 +76,8 @@ pub fn join(tables: &mut [u16], dim: usize, darts: usize, j: usize, b: WalkNo, e
     tables[q] = b.0;
 }
 
-// A w must name a numbered dart other than b with no link at rank j.
-pub fn nameable(
+// A w must name a numbered dart other than b with no link at rank j; else the cause is told, the first in this order.
+pub fn naming(
     tables: &[u16],
     dim: usize,
     darts: usize,
@@ -83,17 +85,20 @@ pub fn nameable(
     j: usize,
     b: WalkNo,
     e: WalkNo,
-) -> bool
+) -> Naming
     requires { ⌜ Limits dim darts (now tables) × (j ≤ dim) ⌝ }
-    ensures { λ r. ⌜ r ≡ mayName dim darts (now (tables .entry)) count j (b .0) (e .0) ⌝ }
+    ensures { λ r. ⌜ r ≡ namingFor dim darts (now (tables .entry)) count j (b .0) (e .0) ⌝ }
 {
     if count <= e.0 {
-        return false;
+        return Naming::Unnumbered;
     }
     if e.0 == b.0 {
-        return false;
+        return Naming::Itself;
     }
-    known_link(tables, dim, darts, j, e).0 == Session::NO_LINK
+    if known_link(tables, dim, darts, j, e).0 != Session::NO_LINK {
+        return Naming::Linked;
+    }
+    Naming::Allowed
 }
 
 // An N must find a dart that has no number yet.
@@ -153,6 +158,32 @@ pub fn by_deduction(
     }
 }
 
+// The step at the head b of Lj by a w that names e: refused by its cause where e may not be named.
+pub fn by_index(
+    tables: &mut [u16],
+    positions: &mut [u16],
+    dim: usize,
+    darts: usize,
+    count: u16,
+    j: usize,
+    b: WalkNo,
+    e: WalkNo,
+) -> Stepped
+    requires { ⌜ HeadCase dim darts count (now positions) (now tables) j (b .0) Partner.asked ⌝ }
+    ensures { λ r. ⌜ Steps dim darts count (now (positions .entry)) (now (tables .entry))
+        (symbolStep j (b .0) (walk.Symbol.index (e .0))) r (now (positions .exit)) (now (tables .exit)) ⌝ }
+{
+    match naming(tables, dim, darts, count, j, b, e) {
+        Naming::Allowed => {
+            tied(tables, positions, dim, darts, j, b, e);
+            Stepped::On(j, count)
+        }
+        Naming::Unnumbered => Stepped::Refused(21),
+        Naming::Itself => Stepped::Refused(22),
+        Naming::Linked => Stepped::Refused(23),
+    }
+}
+
 // The step at the head b of Lj by the symbol s. A new dart enters L0, so the next search begins there.
 pub fn by_symbol(
     tables: &mut [u16],
@@ -173,14 +204,7 @@ pub fn by_symbol(
             tied(tables, positions, dim, darts, j, b, b);
             Stepped::On(j, count)
         }
-        Symbol::Index(e) => {
-            if nameable(tables, dim, darts, count, j, b, e) {
-                tied(tables, positions, dim, darts, j, b, e);
-                Stepped::On(j, count)
-            } else {
-                Stepped::Refused(12)
-            }
-        }
+        Symbol::Index(e) => by_index(tables, positions, dim, darts, count, j, b, e),
         Symbol::New => {
             if dart_left(darts, count) {
                 tied(tables, positions, dim, darts, j, b, WalkNo(count));

@@ -108,7 +108,7 @@ mod surface {
 /// steps of a reading, which are the place.
 #[derive(Clone, Copy, Debug, PartialEq, Eq)]
 pub struct Refusal {
-    /// The refusal number, 1 to 20, as `kanzhulet.h` lists them.
+    /// The refusal number, 1 to 23, as `kanzhulet.h` lists them.
     pub number: u32,
     /// The place that goes with the number: a position in the tables, a dart, a stream's length or the steps done.
     pub place: usize,
@@ -273,8 +273,9 @@ pub fn write(
 /// One whole read: accepts exactly the streams that some valid connected map within the limits has from some root, and
 /// builds that map under its walk numbering in the first (N+1)·n entries of the tables.
 ///
-/// Refused by 1, 3 and 11 to 18. Once a header is accepted, a refusal leaves [`NO_LINK`] in the first (N+1)·n entries;
-/// before, it leaves the tables unchanged.
+/// Refused by 1, 3, 11, 13 to 18 and 21 to 23. A dart that the stream names and may not is refused by its cause: 21, it
+/// has no number yet; 22, it is the dart itself; 23, it has a link at this rank already. Once a header is accepted, a
+/// refusal leaves [`NO_LINK`] in the first (N+1)·n entries; before, it leaves the tables unchanged.
 pub fn read(bytes: &[u8], tables: &mut [u16]) -> Result<ReadAnswer, Refusal> {
     let mut answer = [0; 5];
     // SAFETY: as in `check`; the call may write the tables, which are borrowed as mutable.
@@ -333,7 +334,8 @@ impl Session {
     /// The next page of the stream. Every step is done that needs no bit beyond those seen.
     ///
     /// Refused by 19 if the session is not fit, or the tables do not go with it; by 20 if it is closed; else as
-    /// [`read`] but for 11. A refused session repeats its refusal.
+    /// [`read`] but for 11. A refused session repeats its refusal; 12, which no reading gives any more, is only so
+    /// answered, to a record that was refused with it.
     pub fn page(&mut self, bytes: &[u8], tables: &mut [u16]) -> Result<ReadAnswer, Refusal> {
         let mut answer = [0; 5];
         // SAFETY: as in `read`; the record too is borrowed as mutable over the call.

@@ -8,13 +8,13 @@ use kanzhulet::{
     ReadAnswer, Refusal, ReportAnswer, State, WriteAnswer, MAX_DARTS, MAX_STREAM, MAX_TABLES, MAX_WORK, NO_LINK, RECORD,
 };
 use maps::{post_chain, post_free, post_pairs, post_ring, post_squares, tie, Sample, SAMPLES};
-use rooms::{refused, Lent, Map, SPARE};
+use rooms::{refused, Lent, Map, NUMBERS, SPARE};
 
 const MOST: usize = usize::MAX;
 /// 0 for a call that would drop the upper half.
 const WIDE: usize = 1 << 32;
 
-/// Each theme is a test of its own, and all of them together see every number from 0 to 20.
+/// Each theme is a test of its own, and all of them together see every number from 0 to 23.
 macro_rules! themes {
     ($($theme:ident),* $(,)?) => {
         mod each {
@@ -28,7 +28,7 @@ macro_rules! themes {
         fn every_number_is_seen() {
             let mut lent = Lent::new();
             $($theme(&mut lent);)*
-            assert_eq!(lent.seen, [true; 21]);
+            assert_eq!(lent.seen, [true; NUMBERS]);
         }
     };
 }
@@ -74,7 +74,7 @@ static READINGS: &[Reading] = &[
     ("P6", &[0x70, 0x00], 16, 1, 0, 0, 0),
     ("P7", &[0x10, 0x00, 0x00], 2, 13, 0, 0, 0),
     ("P8", &[0x10, 0x01, 0xA0], 4, 15, 2, 0, 0),
-    ("P9", &[0x10, 0x01, 0xC0, 0x00], 4, 12, 0, 0, 0),
+    ("P9", &[0x10, 0x01, 0xC0, 0x00], 4, 22, 0, 0, 0),
     ("P10", &[0x20, 0x02, 0xA2, 0x80], 9, 14, 8, 0, 0),
     ("P11", &[0x30, 0x07, 0x45, 0x41, 0x80, 0x3D, 0x00], 32, 16, 32, 0, 0),
     ("P12", &[0x10, 0x00, 0xA1], 2, 17, 2, 0, 0),
@@ -103,11 +103,11 @@ static READINGS: &[Reading] = &[
     ("lone dart in 6", &[0x60, 0x00, 0xAA, 0xA8], 7, 0, 0, 6, 1),
     ("no fill, a byte after", &[0x30, 0x00, 0xAA, 0x00], 4, 18, 4, 0, 0),
     ("last fill bit", &[0x60, 0x00, 0xAA, 0xA9], 7, 17, 7, 0, 0),
-    // A named dart: judged once its twelve bits are in; not the dart itself (P9), not one without number, not one that
+    // A named dart: judged once its twelve bits are in; not one without number, not the dart itself (P9), not one that
     // is linked.
     ("index not all there", &[0x10, 0x01, 0xFF], 4, 11, 0, 0, 0),
-    ("index without number", &[0x10, 0x02, 0x60, 0x0A], 6, 12, 2, 0, 0),
-    ("index linked already", &[0x10, 0x03, 0x18, 0x00, 0x00], 8, 12, 5, 0, 0),
+    ("index without number", &[0x10, 0x02, 0x60, 0x0A], 6, 21, 2, 0, 0),
+    ("index linked already", &[0x10, 0x03, 0x18, 0x00, 0x00], 8, 23, 5, 0, 0),
     // Disagreement with a larger i is found at the end, not at the step.
     ("smallest 16", &[0x20, 0x03, 0x91, 0x58, 0x01, 0x80], 12, 16, 12, 0, 0),
     // Of several faults at the end the first of 15, 16, 17, 18; a byte after the end is 18 whatever it holds.
@@ -265,7 +265,7 @@ fn index_waits_for_its_last_bit(lent: &mut Lent) {
     lent.begin("index waits");
     open_in(lent, 4);
     expect_given(lent, &[0x10, 0x01, 0xC1], reading(0, 1, 2), [1, 0, 0, 1, 2, 1, 0, 0, 0, 0, 0, 0, 0, 8, 0xC1]);
-    expect_page(lent, &[0x00], refused(12, 0));
+    expect_page(lent, &[0x00], refused(21, 0));
 }
 
 fn empty_page_changes_nothing(lent: &mut Lent) {
@@ -336,6 +336,8 @@ static UNFIT: &[(&str, &[u32], &[u16])] = &[
     ("refused by 3 at 1", &[4, 3, 1], &[]),
     ("refused by 19", &[4, 19, 0], &[]),
     ("refused by 20", &[4, 20, 0], &[]),
+    ("refused by 24", &[4, 24, 0], &[]),
+    ("refused by 25", &[4, 25, 0], &[]),
     ("running in dimension 0", &[1, 0, 0, 0, 2, 1], &[NO, NO, NO, NO]),
     ("running in dimension 7", &[1, 0, 0, 7, 2, 1], &[NO, NO, NO, NO]),
     ("running without darts", &[1, 0, 0, 1, 0, 1], &[NO, NO, NO, NO]),
@@ -376,9 +378,10 @@ fn lent_refusals_and_closed_records(lent: &mut Lent) {
     lent.take_up([4, 11, 4_000_000_000, 9, 8, 7, 6, 5, 4, 3, 2, 1, 0, 65535, 65535]);
     expect_page(lent, &[0x10, 0x01, 0x50], refused(11, 4_000_000_000));
     expect_close(lent, refused(11, 4_000_000_000));
-    for number in 11..=18 {
+    for number in (11..=18).chain(21..=23) {
         lent.take_up(record_of(&[4, number, 3 * number]));
         expect_page(lent, &[0x80], refused(number, 3 * number as usize));
+        expect_close(lent, refused(number, 3 * number as usize));
     }
     lent.take_up([3, 0, 0, 9, 65535, 65535, 1, 2, 3, 4, 5, 6, 7, 65535, 65535]);
     expect_page(lent, &[0x10, 0x01, 0x50], refused(20, 0));
@@ -725,7 +728,7 @@ fn refusals_print_the_texts_of_the_guide() {
             listed += 1;
         }
     }
-    assert_eq!(listed, 21);
-    let none = Refusal { number: 21, place: 0 };
-    assert_eq!(none.to_string(), "refused 21 at 0: there is no refusal of this number");
+    assert_eq!(listed as usize, NUMBERS);
+    let none = Refusal { number: listed, place: 0 };
+    assert_eq!(none.to_string(), "refused 24 at 0: there is no refusal of this number");
 }

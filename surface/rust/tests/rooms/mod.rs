@@ -6,6 +6,8 @@ use kanzhulet::{ReadAnswer, Refusal, ReportAnswer, Session, State, WriteAnswer, 
 
 pub const GUARD: usize = 32;
 pub const SPARE: usize = 32;
+/// 0 and the refusal numbers.
+pub const NUMBERS: usize = 24;
 const CANARY: u8 = 0xA5;
 
 /// A slice between two guards, and what it held before the call.
@@ -103,7 +105,7 @@ fn no_link(entries: &[u16]) -> bool {
 /// All rooms that are lent to calls, and the numbers that some call has answered.
 pub struct Lent {
     what: &'static str,
-    pub seen: [bool; 21],
+    pub seen: [bool; NUMBERS],
     pub posted: Room<u16>,
     pub built: Room<u16>,
     pub work: Room<u16>,
@@ -120,7 +122,7 @@ impl Lent {
         let beside = || Session::from_record(BESIDE);
         Lent {
             what: "",
-            seen: [false; 21],
+            seen: [false; NUMBERS],
             posted: Room::new(),
             built: Room::new(),
             work: Room::new(),
@@ -175,7 +177,7 @@ impl Lent {
         self.must(number <= most, "such a call gives this number");
         self.seen[number as usize] = true;
         if let Err(refusal) = answer {
-            self.must(refusal.place == 0 || (6..=18).contains(&number), "the number has no place");
+            self.must(refusal.place == 0 || !matches!(number, 1..=5 | 19 | 20), "the number has no place");
         }
     }
 
@@ -252,6 +254,8 @@ impl Lent {
     /// After a reading call that was not answered 19, 20 or by a refusal of before.
     #[track_caller]
     fn after_reading(&mut self, number: u32, entries: usize) {
+        // 12 is not among them
+        self.must(matches!(number, 0 | 1 | 3 | 11 | 13..=18 | 21..=23), "a reading gives this number");
         self.must(self.work.kept() && self.out.kept(), "a reading has one room to write");
         if number == 1 || number == 3 {
             self.must(self.built.kept(), "the tables are kept");
@@ -267,9 +271,8 @@ impl Lent {
     pub fn read(&mut self) -> Result<ReadAnswer, Refusal> {
         self.before_call();
         let answer = kanzhulet::read(self.page.at(), self.built.at_mut());
-        self.after_call(&answer, 18);
+        self.after_call(&answer, 23);
         let number = number_of(&answer);
-        self.must(matches!(number, 0 | 1 | 3 | 11..=18), "a reading gives this number");
         let entries = header_entries(&[0; RECORD], self.page.at());
         self.after_reading(number, entries);
         if let Ok(a) = answer {
@@ -304,6 +307,7 @@ impl Lent {
         let number = number_of(&answer);
         if as_before(number, given) {
             self.must(record == given && self.built.kept(), "the record and the tables are kept");
+            self.must(matches!(number, 19 | 20) || number == given[1], "the refusal is the record's");
             return;
         }
         self.after_reading(number, entries);
@@ -328,7 +332,7 @@ impl Lent {
         let entries = header_entries(&given, self.page.at());
         self.before_call();
         let answer = self.sessions[1].page(self.page.at(), self.built.at_mut());
-        self.after_call(&answer, 20);
+        self.after_call(&answer, 23);
         self.after_session(answer, given, entries);
         self.must(number_of(&answer) != 11 || given[0] == 4, "a page does not cut the stream");
         self.must(answer.is_err() || self.record()[0] <= 2, "a page does not close");
@@ -341,7 +345,7 @@ impl Lent {
         let entries = header_entries(&given, &[]);
         self.before_call();
         let answer = self.sessions[1].close(self.built.at_mut());
-        self.after_call(&answer, 20);
+        self.after_call(&answer, 23);
         self.after_session(answer, given, entries);
         let number = number_of(&answer);
         self.must(number == 0 || number == 11 || as_before(number, given), "closing gives this number");
