@@ -1,8 +1,10 @@
--- Document 02, "Say what is wrong with the index": a w is refused by 21, 22 or 23 exactly where it is not permitted, each exactly in its case. Rests on Moves.
-use Prim.Native.Nat.{ℕ, _≤_, _<_}
+-- Document 02, "Say what is wrong with the index": a w is refused by 21, 22 or 23 exactly where it is not permitted, each exactly in its case,
+-- and with the three taken together a run is that of document 01. Rests on Moves.
+use Prim.Native.Nat.{ℕ, zero, suc, _≤_, _<_}
 use mathlib.Core.Path.{_≡_, refl, ap, sym, subst, _∙_}
 use mathlib.Core.Logic.{_≢_}
 use mathlib.Core.Bool.{Bool, true, false, not, _&&_, cond}
+use mathlib.Core.List.{List}
 use native.Mathlib.Omega.{arith}
 use native.Mathlib.Decide.{decLt}
 use lib.Dec.{eqb, ltb, leb}
@@ -10,10 +12,11 @@ use borrow.Author.Tests.{leb-true, leb-false, eqb-true, eqb-false, le-leb, lt-le
 use Rattle.rules.specs.declared.Naming.{Naming}
 use Rattle.rules.specs.declared.Naming.the-variants.{Allowed, Unnumbered, Itself, Linked}
 use Rattle.rules.specs.Map.{mark}
-use Rattle.rules.specs.Walk.{Walk, Head, head, linkOf, unknown, Partner, partner, Symbol}
+use Rattle.rules.specs.Walk.{Walk, Head, head, linkOf, unknown, Partner, partner, tie, Symbol, apply}
 use Rattle.rules.specs.Naming.{naming, namingNumber}
 use Rattle.rules.specs.Refusals.{among, ofIndex}
-use Rattle.rules.specs.Reading.{permitted, fault}
+use Rattle.rules.specs.Stream.{Taken, takeSymbol}
+use Rattle.rules.specs.Reading.{Run, Step, permitted, fault, allow, stepTaken, stepWith, stepAt, step, onward, run}
 use Rattle.rules.specs.Inner.{Inv}
 use Rattle.rules.proofs.Places.{link-none}
 use Rattle.rules.proofs.Links.{next-below}
@@ -113,16 +116,86 @@ three-causes w j b e = go (decLt e (w .count)) (eqb e b) (unknown w j e)
     go (yes l) false false = rw (lt-leb (w .count) e l, lt-ltb e (w .count) l)
     go (no l) y z = rw (le-leb (w .count) e (omega arith), le-ltb e (w .count) (omega arith))
 
--- what document 01 gave where a symbol is not permitted
+-- The run as document 01 gives it: a w that is not permitted is refused by 12.
+
+-- where a symbol is not permitted
 unfoldable pub formerFault : Symbol → ℕ
 formerFault Symbol.new = 13
 formerFault Symbol.border = 0
 formerFault (Symbol.index e) = 12
 
--- the three taken together are the 12 of before, and nothing else has changed
-pub as-before : (w : Walk) (j b : ℕ) (s : Symbol) → permitted w j b s ≡ false
-    → cond (ofIndex (fault w j b s)) 12 (fault w j b s) ≡ formerFault s
-unfolding formerFault
-as-before w j b Symbol.new p = unfold fault ofIndex among in refl
-as-before w j b Symbol.border p = unfold fault ofIndex among in refl
-as-before w j b (Symbol.index e) p = rw (three-causes w j b e, p)
+-- the symbol at the head b of Lj
+unfoldable pub formerTaken : Walk → List Bool → ℕ → ℕ → Taken → Step
+formerTaken w bs j b Taken.short = Step.stops (Run.waits w bs)
+formerTaken w bs j b (Taken.symbol s rest) = allow (permitted w j b s) (formerFault s) w (apply w j b s) rest
+
+-- a known and a deduced partner are as they are now
+unfoldable pub formerWith : Walk → List Bool → ℕ → ℕ → Partner → Step
+formerWith w bs j b Partner.known = stepWith w bs j b Partner.known
+formerWith w bs j b (Partner.deduced e) = stepWith w bs j b (Partner.deduced e)
+formerWith w bs j b Partner.asked = formerTaken w bs j b (takeSymbol bs)
+
+-- one step
+unfoldable pub formerStep : Walk → List Bool → Head → Step
+formerStep w bs Head.none = stepAt w bs Head.none
+formerStep w bs (Head.at j b) = formerWith w bs j b (partner w j b)
+
+-- at most k steps
+unfoldable pub formerRun : ℕ → Walk → List Bool → Run
+formerRun zero w bs = Run.waits w bs
+formerRun (suc k) w bs = onward (λ w' bs'. formerRun k w' bs') (formerStep w bs (head w))
+
+-- a run with the three causes taken together
+unfoldable pub together : Run → Run
+together (Run.ended w bs) = Run.ended w bs
+together (Run.waits w bs) = Run.waits w bs
+together (Run.refused nr w) = Run.refused (cond (ofIndex nr) 12 nr) w
+
+unfoldable stepTogether : Step → Step
+stepTogether (Step.goes w bs) = Step.goes w bs
+stepTogether (Step.stops r) = Step.stops (together r)
+
+symbol-before : (w : Walk) (j b : ℕ) (s : Symbol) (rest : List Bool)
+    → allow (permitted w j b s) (formerFault s) w (apply w j b s) rest ≡ stepTogether (allow (permitted w j b s) (fault w j b s) w (apply w j b s) rest)
+symbol-before w j b s rest = go (permitted w j b s) refl
+  where
+    number : (s : Symbol) → permitted w j b s ≡ false → formerFault s ≡ cond (ofIndex (fault w j b s)) 12 (fault w j b s)
+    number Symbol.new p = unfold formerFault fault ofIndex among in refl
+    number Symbol.border p = unfold formerFault fault ofIndex among in refl
+    number (Symbol.index e) p = unfold formerFault in rw (three-causes w j b e, p)
+
+    go : (t : Bool) → permitted w j b s ≡ t → allow t (formerFault s) w (apply w j b s) rest ≡ stepTogether (allow t (fault w j b s) w (apply w j b s) rest)
+    go true p = unfold allow stepTogether in refl
+    go false p = unfold allow stepTogether together in rw (number s p)
+
+step-before : (w : Walk) (bs : List Bool) → formerStep w bs (head w) ≡ stepTogether (step w bs)
+unfolding step
+step-before w bs = at (head w)
+  where
+    taken : (j b : ℕ) (t : Taken) → formerTaken w bs j b t ≡ stepTogether (stepTaken w bs j b t)
+    taken j b Taken.short = unfold formerTaken stepTaken stepTogether together in refl
+    taken j b (Taken.symbol s rest) = unfold formerTaken stepTaken in symbol-before w j b s rest
+
+    deduced : (t : Bool) (w' : Walk) → allow t 14 w w' bs ≡ stepTogether (allow t 14 w w' bs)
+    deduced true w' = unfold allow stepTogether in refl
+    deduced false w' = unfold allow stepTogether together ofIndex among in refl
+
+    with' : (j b : ℕ) (p : Partner) → formerWith w bs j b p ≡ stepTogether (stepWith w bs j b p)
+    with' j b Partner.known = unfold formerWith stepWith stepTogether in refl
+    with' j b (Partner.deduced e) = unfold formerWith stepWith in deduced (unknown w j e) (tie w j b e)
+    with' j b Partner.asked = unfold formerWith stepWith in taken j b (takeSymbol bs)
+
+    at : (h : Head) → formerStep w bs h ≡ stepTogether (stepAt w bs h)
+    at Head.none = unfold formerStep stepAt stepTogether together in refl
+    at (Head.at j b) = unfold formerStep stepAt in with' j b (partner w j b)
+
+-- with the three taken together every run is that of document 01: as many steps, the same walk and the same bits left, and 12 where one of them is given
+pub as-before : (k : ℕ) (w : Walk) (bs : List Bool) → formerRun k w bs ≡ together (run k w bs)
+unfolding formerRun run
+as-before zero w bs = unfold together in refl
+as-before (suc k) w bs = rw (step-before w bs) (go (λ w' bs'. as-before k w' bs') (step w bs))
+  where
+    go : ((w' : Walk) (bs' : List Bool) → formerRun k w' bs' ≡ together (run k w' bs'))
+        → (s : Step) → onward (λ w' bs'. formerRun k w' bs') (stepTogether s) ≡ together (onward (λ w' bs'. run k w' bs') s)
+    go rec (Step.goes w' bs') = unfold stepTogether onward in rec w' bs'
+    go rec (Step.stops r) = unfold stepTogether onward in refl

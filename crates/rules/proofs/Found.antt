@@ -1,4 +1,4 @@
--- The numbers that a reading finds, and that 12 is none of them any more (document 02, "Say what is wrong with the index"). Rests on Readings.
+-- The numbers that a reading finds, and that 12 is none of them any more (document 02, "Say what is wrong with the index"). Rests on Sessions.
 use Prim.Native.Nat.{ℕ}
 use mathlib.Core.Path.{_≡_, refl}
 use mathlib.Core.Logic.{_≢_, _⊎_, inl, inr}
@@ -21,6 +21,7 @@ use Rattle.rules.proofs.Lists.{or-left, or-right, not-both}
 use Rattle.rules.proofs.Refusals.{wipes-fit}
 use Rattle.rules.proofs.Runs.{Final, ran}
 use Rattle.rules.proofs.Readings.{WalkEnds, finish-ends}
+use Rattle.rules.proofs.Sessions.{page-as, close-as}
 
 -- the numbers that a reading finds: at a header, closing too early, in a step, at the walk's end
 unfoldable pub found : ℕ → Bool
@@ -156,9 +157,9 @@ unfolding fit fitAs
 fit-12 s t p q = rw q (wipes-fit 12 p (unfold wipes in refl))
 
 pub page-repeats-12 : (s : Session) (bytes t : List ℕ) (p : ℕ) → s .state ≡ Refused 12 p → page s bytes t ≡ unchanged s t (plainAnswer 12 p)
-unfolding page pageAs ifFit
-page-repeats-12 s bytes t p q = rw (fit-12 s t p q, q)
+unfolding pageAs
+page-repeats-12 s bytes t p q = page-as s bytes t (Refused 12 p) (fit-12 s t p q) q
 
 pub close-repeats-12 : (s : Session) (t : List ℕ) (p : ℕ) → s .state ≡ Refused 12 p → close s t ≡ unchanged s t (plainAnswer 12 p)
-unfolding close closeAs ifFit
-close-repeats-12 s t p q = rw (fit-12 s t p q, q)
+unfolding closeAs
+close-repeats-12 s t p q = close-as s t (Refused 12 p) (fit-12 s t p q) q

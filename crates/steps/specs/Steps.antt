@@ -23,9 +23,9 @@ stand k ps = record { count = k; positions = ps }
 abbrev pub tablesJoined : ℕ → ℕ → List ℕ → ℕ → ℕ → ℕ → List ℕ
 tablesJoined N n t j b e = set (set t (place N n j b) e) (place N n j e) b
 
--- what a w says of the dart e, by the tables and the count alone
+-- what a w says of the dart e: of the walk only the count and the tables are asked
 abbrev pub namingFor : ℕ → ℕ → List ℕ → ℕ → ℕ → ℕ → ℕ → Naming
-namingFor N n t count j b e = naming (record { dim = N; darts = n; queues = []; links = t; count = count; positions = [] }) j b e
+namingFor N n t count j b e = naming (walkAt N n (stand count []) t) j b e
 
 -- aj(b) = e was made known, and b has left Lj
 pub record Tied (N n : ℕ) (ps t : List ℕ) (j b e : ℕ) (ps' t' : List ℕ) : Type 0 where
