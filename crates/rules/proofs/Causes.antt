@@ -8,7 +8,7 @@ use mathlib.Core.List.{List}
 use native.Mathlib.Omega.{arith}
 use native.Mathlib.Decide.{decLt}
 use lib.Dec.{eqb, ltb, leb}
-use borrow.Author.Tests.{leb-true, leb-false, eqb-true, eqb-false, le-leb, lt-leb, le-ltb, lt-ltb, eq-eqb, ne-eqb}
+use borrow.Author.Tests.{leb-true, leb-false, eqb-true, eqb-false, le-leb, lt-leb, le-ltb, lt-ltb, eq-eqb, ne-eqb, not-true}
 use Rattle.rules.specs.declared.Naming.{Naming}
 use Rattle.rules.specs.declared.Naming.the-variants.{Allowed, Unnumbered, Itself, Linked}
 use Rattle.rules.specs.Map.{mark}
@@ -21,7 +21,7 @@ use Rattle.rules.specs.Inner.{Inv}
 use Rattle.rules.proofs.Places.{link-none}
 use Rattle.rules.proofs.Links.{next-below}
 use Rattle.rules.proofs.Walks.{unknown-true, unknown-false, next-of}
-use Rattle.rules.proofs.Moves.{Named, see-asked}
+use Rattle.rules.proofs.Moves.{Named, named-index, index-named, see-asked, allow-goes}
 
 -- what each says of a w that names e at the head b of Lj
 unfoldable pub Says : Naming → Walk → ℕ → ℕ → ℕ → Type 0
@@ -71,39 +71,6 @@ module _ (w : Walk) (v : Inv w) (j b : ℕ) (h : head w ≡ Head.at j b) (a : pa
   pub one-cause : (c d : Naming) → Says c w j b e → Says d w j b e → c ≡ d
   one-cause c d s t = sym (says-naming c s) ∙ says-naming d t
 
--- a number of a w that names e at the head b of Lj: each is given exactly in its case
-pub record Told (w : Walk) (j b e nr : ℕ) : Type 0 where
-  pub unnumbered : (nr ≡ 21 → w .count ≤ e) × (w .count ≤ e → nr ≡ 21)
-  pub itself : (nr ≡ 22 → e ≡ b) × (e ≡ b → nr ≡ 22)
-  pub linked : (nr ≡ 23 → linkOf w j e ≢ mark) × (linkOf w j e ≢ mark → nr ≡ 23)
-  pub allowed : (nr ≡ 0 → Named w j b e) × (Named w j b e → nr ≡ 0)
-
--- document 02's sentence, for every step that asks for a symbol
-pub told-apart : (w : Walk) → Inv w → (j b : ℕ) → head w ≡ Head.at j b → partner w j b ≡ Partner.asked → (e : ℕ) → Told w j b e (fault w j b (Symbol.index e))
-unfolding fault namingNumber Says
-told-apart w v j b h a e = record {
-  unnumbered = (from 21, to Unnumbered);
-  itself = (from 22, to Itself);
-  linked = (from 23, to Linked);
-  allowed = (from 0, to Allowed);
-}
-  where
-    -- the cause of each number
-    causeOf : ℕ → Naming
-    causeOf nr = cond (eqb nr 21) Unnumbered (cond (eqb nr 22) Itself (cond (eqb nr 23) Linked Allowed))
-
-    cause-number : (c : Naming) → causeOf (namingNumber c) ≡ c
-    cause-number Allowed = refl
-    cause-number Unnumbered = refl
-    cause-number Itself = refl
-    cause-number Linked = refl
-
-    from : (nr : ℕ) → namingNumber (naming w j b e) ≡ nr → Says (causeOf nr) w j b e
-    from nr q = subst (λ c. Says c w j b e) (sym (cause-number (naming w j b e)) ∙ ap causeOf q) (naming-says w j b e)
-
-    to : (c : Naming) → Says c w j b e → namingNumber (naming w j b e) ≡ namingNumber c
-    to c s = ap namingNumber (says-naming w v j b h a e c s)
-
 -- one of the three refuses a w exactly where it is not permitted, in any walk
 pub three-causes : (w : Walk) (j b e : ℕ) → ofIndex (fault w j b (Symbol.index e)) ≡ not (permitted w j b (Symbol.index e))
 unfolding fault naming namingNumber ofIndex among permitted
@@ -115,6 +82,84 @@ three-causes w j b e = go (decLt e (w .count)) (eqb e b) (unknown w j e)
     go (yes l) false true = rw (lt-leb (w .count) e l, lt-ltb e (w .count) l)
     go (yes l) false false = rw (lt-leb (w .count) e l, lt-ltb e (w .count) l)
     go (no l) y z = rw (le-leb (w .count) e (omega arith), le-ltb e (w .count) (omega arith))
+
+-- the number of a w
+fault-of : (w : Walk) (j b e : ℕ) → fault w j b (Symbol.index e) ≡ namingNumber (naming w j b e)
+unfolding fault
+fault-of w j b e = refl
+
+-- a step that is refused by a number
+abbrev pub refusedBy : ℕ → Walk → Step
+refusedBy nr w = Step.stops (Run.refused nr w)
+
+-- a step is refused by its own number, and made or refused by what allows it
+allow-number : (t : Bool) (nr k : ℕ) (w w' : Walk) (bs : List Bool) → allow t nr w w' bs ≡ refusedBy k w → nr ≡ k
+unfolding allow
+allow-number true nr k w w' bs e = let z : _≡_ {A = ℕ} 0 1 = cc in absurd (omega arith)
+allow-number false nr k w w' bs e = cc
+
+allow-yes : {t : Bool} → t ≡ true → (nr : ℕ) (w w' : Walk) (bs : List Bool) → allow t nr w w' bs ≡ Step.goes w' bs
+unfolding allow
+allow-yes p nr w w' bs = rw p
+
+allow-no : {t : Bool} → t ≡ false → (nr : ℕ) (w w' : Walk) (bs : List Bool) → allow t nr w w' bs ≡ refusedBy nr w
+unfolding allow
+allow-no p nr w w' bs = rw p
+
+-- the step on a w that names e at the head b of Lj: each number is given exactly in its case, and the step is made exactly where e may be named
+pub record Told (w : Walk) (bs : List Bool) (j b e : ℕ) (rest : List Bool) : Type 0 where
+  pub unnumbered : (step w bs ≡ refusedBy 21 w → w .count ≤ e) × (w .count ≤ e → step w bs ≡ refusedBy 21 w)
+  pub itself : (step w bs ≡ refusedBy 22 w → e ≡ b) × (e ≡ b → step w bs ≡ refusedBy 22 w)
+  pub linked : (step w bs ≡ refusedBy 23 w → linkOf w j e ≢ mark) × (linkOf w j e ≢ mark → step w bs ≡ refusedBy 23 w)
+  pub allowed : (step w bs ≡ Step.goes (apply w j b (Symbol.index e)) rest → Named w j b e)
+      × (Named w j b e → step w bs ≡ Step.goes (apply w j b (Symbol.index e)) rest)
+
+-- document 02's sentence, for every step that asks for a symbol and finds a w
+module _ (w : Walk) (v : Inv w) (bs : List Bool) (j b e : ℕ) (rest : List Bool) where
+  pub told-apart : head w ≡ Head.at j b → partner w j b ≡ Partner.asked → takeSymbol bs ≡ Taken.symbol (Symbol.index e) rest → Told w bs j b e rest
+  unfolding namingNumber ofIndex among Says
+  told-apart h a q = record {
+    unnumbered = (from 21, λ s. to Unnumbered s refl);
+    itself = (from 22, λ s. to Itself s refl);
+    linked = (from 23, λ s. to Linked s refl);
+    allowed = (made, makes);
+  }
+    where
+      -- the cause of each number
+      causeOf : ℕ → Naming
+      causeOf nr = cond (eqb nr 21) Unnumbered (cond (eqb nr 22) Itself (cond (eqb nr 23) Linked Allowed))
+
+      cause-number : (c : Naming) → causeOf (namingNumber c) ≡ c
+      cause-number Allowed = refl
+      cause-number Unnumbered = refl
+      cause-number Itself = refl
+      cause-number Linked = refl
+
+      may : Bool
+      may = permitted w j b (Symbol.index e)
+
+      after : Walk
+      after = apply w j b (Symbol.index e)
+
+      step-is : step w bs ≡ allow may (namingNumber (naming w j b e)) w after rest
+      step-is = unfold step stepAt stepWith stepTaken in rw (h, a, q, fault-of)
+
+      from : (nr : ℕ) → step w bs ≡ refusedBy nr w → Says (causeOf nr) w j b e
+      from nr s =
+          let f = allow-number may (namingNumber (naming w j b e)) nr w after rest (sym step-is ∙ s) in
+          subst (λ c. Says c w j b e) (sym (cause-number (naming w j b e)) ∙ ap causeOf f) (naming-says w j b e)
+
+      to : (c : Naming) → Says c w j b e → ofIndex (namingNumber c) ≡ true → step w bs ≡ refusedBy (namingNumber c) w
+      to c s i =
+          let f : naming w j b e ≡ c = says-naming w v j b h a e c s in
+          let p : may ≡ false = not-true may (sym (three-causes w j b e) ∙ ap ofIndex (fault-of w j b e ∙ ap namingNumber f) ∙ i) in
+          step-is ∙ allow-no p (namingNumber (naming w j b e)) w after rest ∙ ap (λ (x : Naming). refusedBy (namingNumber x) w) f
+
+      made : step w bs ≡ Step.goes after rest → Named w j b e
+      made s = named-index w j b e (allow-goes may (namingNumber (naming w j b e)) w after after rest rest (sym step-is ∙ s) .0)
+
+      makes : Named w j b e → step w bs ≡ Step.goes after rest
+      makes n = step-is ∙ allow-yes (index-named w j b e n) (namingNumber (naming w j b e)) w after rest
 
 -- The run as document 01 gives it: a w that is not permitted is refused by 12.
 
