@@ -1,4 +1,4 @@
-// The session's calls, by value: the page, closing, and the whole read (refusals 1, 3 and 11 to 20).
+// The session's calls, by value: the page, closing, and the whole read, with the refusals of a reading.
 use records::Paged;
 use rules::ReadAnswer;
 use rules::Session;

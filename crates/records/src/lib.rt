@@ -87,7 +87,7 @@ pub fn refused(number: u32, place: u32) -> Paged
     Paged { session, answer }
 }
 
-// Refused by 11 to 18: the map's entries become the mark.
+// Refused by a number that wipes the tables: the map's entries become the mark.
 pub fn spoiled(number: u32, dim: usize, darts: usize, stand: Stand, tables: &mut [u16]) -> Paged
     requires { ⌜ Limits dim darts (now tables) ⌝ }
     ensures { λ r. let t = now (tables .entry) in ⌜ leftBy r (now (tables .exit))
