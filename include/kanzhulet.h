@@ -37,7 +37,7 @@ extern "C" {
 #endif
 
 /* The library's version, as pkg-config and the Rust wrapper give it too. */
-#define KZ_VERSION "0.3.0"
+#define KZ_VERSION "0.4.0"
 
 /* The limits, and the rooms that are long enough for every map. */
 enum {
@@ -190,8 +190,10 @@ uint32_t kz_close(uint32_t record[KZ_RECORD],
  * The cell report of a map.
  *
  * answer: number, place, the number of i-cells for i = 0 to 6 (0 past N), the number of free (rank, dart) pairs, and 1
- *         if the map is orientable, that is if the darts can be put in two classes so that every ai takes each dart to
- *         the other class (so a map with a free dart is not). On a refusal all but number and place are 0.
+ *         if the map is orientable, that is if the darts can be put in two classes so that every link from a dart to
+ *         another one leads to the other class. A free dart is linked to itself at its rank; such a link is left out,
+ *         at every rank. So an open square is orientable, and a Moebius band, open too, is not. On a refusal all but
+ *         number and place are 0.
  * Order of tests: 1 to 4 and 6 to 9 as kz_check with root 0.
  * tables and work: as for kz_check; but after 0 the first 2n of the work room are KZ_NO_LINK.
  */

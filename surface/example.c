@@ -1,6 +1,6 @@
 /*
  * The map of one square, there and back: posted as tables, checked, handed out in pages of four bytes, read back page
- * by page, and reported.
+ * by page, and reported. Then the report of a Moebius band.
  */
 #include "kanzhulet.h"
 #include <stdio.h>
@@ -14,6 +14,13 @@ static const uint16_t square[ENTRIES] = {
     0, 1, 2, 3, 4, 5, 6, 7, /* a2: the square across the side: none, so every dart is free at rank 2 */
 };
 
+/* The same square with side 0 joined to side 2, twisted: a Moebius band. Sides 1 and 3 stay free. */
+static const uint16_t band[ENTRIES] = {
+    1, 0, 3, 2, 5, 4, 7, 6,
+    7, 2, 1, 4, 3, 6, 5, 0,
+    4, 5, 2, 3, 0, 1, 6, 7,
+};
+
 static int refused(const uint32_t *answer)
 {
     if (answer[0] != KZ_ACCEPTED)
@@ -21,12 +28,27 @@ static int refused(const uint32_t *answer)
     return answer[0] != KZ_ACCEPTED;
 }
 
+/* Both are open. The square is orientable, the band is not. */
+static int print_report(const char *name, uint32_t dim, uint32_t darts, const uint16_t *tables, size_t length)
+{
+    uint16_t work[2 * DARTS];
+    uint32_t report[KZ_REPORT_ANSWER];
+    kz_report(dim, darts, tables, length, work, 2 * DARTS, report);
+    if (refused(report))
+        return 1;
+    printf("%s: cells", name);
+    for (uint32_t i = 0; i <= dim; i++)
+        printf(" %u", (unsigned)report[2 + i]);
+    printf(" free %u orientable %s\n", (unsigned)report[9], report[10] ? "yes" : "no");
+    return 0;
+}
+
 int main(void)
 {
-    uint16_t work[2 * DARTS];       /* lent to the check, the writer and the report */
+    uint16_t work[2 * DARTS];       /* lent to the check and the writer */
     uint16_t tables[KZ_MAX_TABLES]; /* what the reader builds; long enough for every map */
     uint32_t record[KZ_RECORD];     /* the reader's session */
-    uint32_t checked[KZ_CHECK_ANSWER], written[KZ_WRITE_ANSWER], back[KZ_READ_ANSWER], report[KZ_REPORT_ANSWER];
+    uint32_t checked[KZ_CHECK_ANSWER], written[KZ_WRITE_ANSWER], back[KZ_READ_ANSWER];
     uint8_t page[PAGE];
     uint64_t start = 0;
 
@@ -53,13 +75,6 @@ int main(void)
     if (refused(back))
         return 1;
     printf("dimension %u darts %u steps %u\n", (unsigned)back[3], (unsigned)back[4], (unsigned)back[2]);
-
-    kz_report(back[3], back[4], tables, KZ_MAX_TABLES, work, 2 * DARTS, report);
-    if (refused(report))
-        return 1;
-    printf("cells");
-    for (uint32_t i = 0; i <= back[3]; i++)
-        printf(" %u", (unsigned)report[2 + i]);
-    printf("\nfree %u\norientable %s\n", (unsigned)report[9], report[10] ? "yes" : "no");
-    return 0;
+    return print_report("square", back[3], back[4], tables, KZ_MAX_TABLES) ||
+           print_report("band", DIM, DARTS, band, ENTRIES);
 }

@@ -53,6 +53,7 @@ static int print_text(uint32_t length)
     for (unsigned i = 0; i <= DIM; i++)
         printf(" %u", (unsigned)report[2 + i]);
     printf("\nfree %u\nsteps %u\n", (unsigned)report[9], (unsigned)read[2]);
+    printf("orientable %s\n", report[10] ? "yes" : "no");
     return 0;
 }
 

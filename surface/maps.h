@@ -210,6 +210,7 @@ static struct map chain_of_five(void) { return post_chain(1, 5); }
 static struct map chain_in_six(void) { return post_chain(6, 6); }
 static struct map loop(void) { return post_ring(1); }
 static struct map triangle(void) { return post_ring(3); }
+static struct map open_square(void) { return post_squares(1); }
 static struct map grid_three_by_two(void) { return post_grid(3, 2, 0); }
 static struct map torus_three_by_two(void) { return post_grid(3, 2, 1); }
 static struct map torus_of_one(void) { return post_grid(1, 1, 1); }
@@ -221,6 +222,14 @@ static struct map wrapped_box_in_five(void) { return post_box(5, 1); }
 static struct map bits_in_six(void) { return post_bits(6); }
 static struct map paths_in_six(void) { return post_paths(four_lengths); }
 static struct map most_pairs(void) { return post_pairs(KZ_MAX_DARTS); }
+
+/* Two opposite sides of a square joined with a twist: open, and the darts have no two classes. */
+static struct map moebius_band(void)
+{
+    struct map m = post_squares(1);
+    join_sides(m, 0, 0, 1, 1);
+    return m;
+}
 
 /* No dart is free, yet the darts have no two classes: opposite sides are joined, one pair of them twisted. */
 static struct map klein_bottle(void)
@@ -237,23 +246,25 @@ struct sample {
 };
 
 static const struct sample samples[] = {
-    { "lone dart", lone_dart, { 1, 1, 1, 1, 1, 1, 1 }, 7, 0 },
-    { "P2, two darts", two_darts, { 2, 1 }, 2, 0 },
-    { "chain of five", chain_of_five, { 3, 3 }, 2, 0 },
-    { "chain in six", chain_in_six, { 4, 3, 1, 1, 1, 1, 1 }, 32, 0 },
+    { "lone dart", lone_dart, { 1, 1, 1, 1, 1, 1, 1 }, 7, 1 },
+    { "P2, two darts", two_darts, { 2, 1 }, 2, 1 },
+    { "chain of five", chain_of_five, { 3, 3 }, 2, 1 },
+    { "chain in six", chain_in_six, { 4, 3, 1, 1, 1, 1, 1 }, 32, 1 },
     { "loop", loop, { 1, 1 }, 0, 1 },
     { "P3, triangle", triangle, { 3, 3 }, 0, 1 },
-    { "grid 3 by 2", grid_three_by_two, { 12, 17, 6 }, 20, 0 },
+    { "open square", open_square, { 4, 4, 1 }, 8, 1 },
+    { "Moebius band", moebius_band, { 2, 3, 1 }, 4, 0 },
+    { "grid 3 by 2", grid_three_by_two, { 12, 17, 6 }, 20, 1 },
     { "torus 3 by 2", torus_three_by_two, { 6, 12, 6 }, 0, 1 },
     { "torus of one square", torus_of_one, { 1, 2, 1 }, 0, 1 },
     { "Klein bottle", klein_bottle, { 1, 2, 1 }, 0, 0 },
-    { "cube", cube, { 8, 12, 6, 1 }, 48, 0 },
+    { "cube", cube, { 8, 12, 6, 1 }, 48, 1 },
     { "wrapped cube", wrapped_cube, { 1, 3, 3, 1 }, 0, 1 },
     { "wrapped box in four", wrapped_box_in_four, { 1, 4, 6, 4, 1 }, 0, 1 },
-    { "box in five", box_in_five, { 32, 80, 80, 40, 10, 1 }, 3840, 0 },
+    { "box in five", box_in_five, { 32, 80, 80, 40, 10, 1 }, 3840, 1 },
     { "wrapped box in five", wrapped_box_in_five, { 1, 5, 10, 10, 5, 1 }, 0, 1 },
     { "bits in six", bits_in_six, { 2, 2, 2, 2, 2, 2, 2 }, 0, 1 },
-    { "paths in six", paths_in_six, { 3, 2, 2, 2, 3, 3, 2 }, 188, 0 },
+    { "paths in six", paths_in_six, { 3, 2, 2, 2, 3, 3, 2 }, 188, 1 },
     { "most pairs", most_pairs, { 1, 1, 1, 1, 1, 1025, 1024 }, 0, 1 },
 };
 

@@ -144,13 +144,31 @@ static void compare_check(struct posting p)
     same_sides("check");
 }
 
+/* Maps reported: closed or with a free pair, orientable or not. */
+static unsigned long reports_by[2][2];
+
 static void compare_report(struct posting p)
 {
+    const uint32_t *answer = sides[LIBRARY].answer;
     int k;
     prepare_both();
     for (k = 0; k < PROGRAMS; k++)
         programs[k].report(p.m.dim, p.m.darts, posted, p.tables, sides[k].work, p.work, sides[k].answer);
     same_sides("report");
+    if (answer[0] == 0)
+        reports_by[answer[9] > 0][answer[10]]++;
+}
+
+/* Maps of each kind were met. */
+static void all_reports_met(void)
+{
+    int k;
+    for (k = 0; k < 4; k++)
+        if (reports_by[k / 2][k % 2] == 0) {
+            printf("bench: no %s map that is %sorientable was compared\n", k / 2 ? "open" : "closed",
+                   k % 2 ? "" : "not ");
+            exit(1);
+        }
 }
 
 static void compare_write(struct posting p, uint64_t start, size_t size)
@@ -392,6 +410,7 @@ static void compare_small(void)
     compare_spoiled_maps(2000);
     compare_spoiled_streams(1000);
     all_reads_met();
+    all_reports_met();
 }
 
 #endif

@@ -605,7 +605,7 @@ static uint32_t count_cells(const struct map *map, uint32_t rank, struct flood *
 }
 
 /* Marks the darts reached from dart 0 with 1 and 2, a new dart with the other mark than the dart it is reached from; 1
-   if then every link of a marked dart leads to the other mark. */
+   if then every link that takes a marked dart to another dart takes it to the other mark. */
 static uint32_t two_classes(const struct map *map, struct flood *flood)
 {
     uint32_t apart = 1;
@@ -617,7 +617,7 @@ static uint32_t two_classes(const struct map *map, struct flood *flood)
             uint32_t partner = links_of_rank(map, i)[dart];
             if (flood->mark[partner] == 0)
                 reach(flood, partner, 3 - flood->mark[dart]);
-            else if (flood->mark[partner] == flood->mark[dart])
+            else if (partner != dart && flood->mark[partner] == flood->mark[dart])
                 apart = 0;
         }
     }

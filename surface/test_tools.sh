@@ -42,11 +42,23 @@ refuses_words() {
   said_no err
 }
 
-# A refusal prints one line, streams beyond 50,178 bytes are read in full, and a stream of several pages is listed
-# whole, from standard input and from a file.
+# The square and the band of surface/example.c, as they are listed; both are open.
+square=$(
+  printf '%s\n' 'dimension 2 darts 8' '0 1 2 0' '1 0 4 1' '2 3 0 2' '3 2 6 3' '4 5 1 4' '5 4 7 5' '6 7 3 6' '7 6 5 7'
+  printf '%s\n' 'cells 4 4 1' 'free 8' 'steps 24' 'orientable yes'
+)
+band=$(
+  printf '%s\n' 'dimension 2 darts 8' '0 1 2 7' '1 0 4 6' '2 3 0 2' '3 2 6 3' '4 5 1 4' '5 4 7 5' '6 7 3 1' '7 6 5 0'
+  printf '%s\n' 'cells 2 3 1' 'free 4' 'steps 24' 'orientable no'
+)
+
+# A refusal prints one line, a listing ends with whether the map is orientable, streams beyond 50,178 bytes are read in
+# full, and a stream of several pages is listed whole, from standard input and from a file.
 test_listing() {
   local text
   bring_program
+  printf '\x20\x07\x01\x80\x3D\x50' | lists 0 "$square" "$root/run"
+  printf '\x20\x07\x01\x80\x3E\x00\xF4' | lists 0 "$band" "$root/run"
   printf '' | lists 1 'refused 11 at 0' "$root/run"
   printf '\x70\x00' | lists 1 'refused 1 at 0' "$root/run"
   printf '\x10\x02\x60\x0A' | lists 1 'refused 21 at 2' "$root/run"

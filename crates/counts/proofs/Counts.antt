@@ -25,11 +25,11 @@ use Rattle.flood.proofs.Orbits.{reached-marked, flooded-on, flooded-start, floo
 use Rattle.counts.specs.Tests.{isFree}
 
 -- one number more below the bound
-count-yes : (f : ℕ → Bool) (k : ℕ) → f k ≡ true → countBelow (k + 1) f ≡ countBelow k f + 1
+pub count-yes : (f : ℕ → Bool) (k : ℕ) → f k ≡ true → countBelow (k + 1) f ≡ countBelow k f + 1
 unfolding countBelow
 count-yes f k q = let e : k + 1 ≡ suc k = omega arith in rw (e, q) (omega arith)
 
-count-no : (f : ℕ → Bool) (k : ℕ) → f k ≡ false → countBelow (k + 1) f ≡ countBelow k f
+pub count-no : (f : ℕ → Bool) (k : ℕ) → f k ≡ false → countBelow (k + 1) f ≡ countBelow k f
 unfolding countBelow
 count-no f k q = let e : k + 1 ≡ suc k = omega arith in rw (e, q) (omega arith)
 
@@ -43,6 +43,17 @@ unfolding countBelow
 count-on f k zero = let e : k + 0 ≡ k = omega arith in rw e (omega arith)
 count-on f k (suc m) = let e : k + suc m ≡ suc (k + m) = omega arith in rw e (omega (arith, count-on f k m))
 
+-- no row of n numbers, and one row more
+pub rows-none : (f : ℕ → Bool) (n : ℕ) → 0 ≡ countBelow (0 * n) f
+rows-none f n = let z : 0 * n ≡ 0 = omega arith in rw z (sym (count-none f))
+
+pub rows-next : (f : ℕ → Bool) (n i found more : ℕ) → found ≡ countBelow (i * n) f → more ≡ countBelow n (λ d. f (i * n + d))
+    → found + more ≡ countBelow ((i + 1) * n) f
+rows-next f n i found more e q = let z : (i + 1) * n ≡ i * n + n = omega arith in rw (z, e, q) (sym (count-on f (i * n) n))
+
+pub rows-end : (f : ℕ → Bool) (N n i found : ℕ) → i ≡ N + 1 → found ≡ countBelow (i * n) f → found ≡ countBelow (size N n) f
+rows-end f N n i found e c = let z : i * n ≡ size N n = rw e (omega arith) in c ∙ ap (λ (x : ℕ). countBelow x f) z
+
 -- the test of the code, x being the entry that it read
 module _ (N n : ℕ) (t : List ℕ) (i d x : ℕ) (L : Limits N n t) (hi : i ≤ N) (hd : d < n) (e : x ≡ getD t (place N n i d) 0) where
   free-test : isFree N n t (i * n + d) ≡ eqb x d
@@ -55,17 +66,10 @@ module _ (N n : ℕ) (t : List ℕ) (i d x : ℕ) (L : Limits N n t) (hi : i ≤
   pub free-no : (free : ℕ) → x ≢ d → free ≡ countBelow d (λ d. isFree N n t (i * n + d)) → free ≡ countBelow (d + 1) (λ d. isFree N n t (i * n + d))
   free-no free h c = c ∙ sym (count-no (λ d. isFree N n t (i * n + d)) d (free-test ∙ ne-eqb x d h))
 
--- no rank, and one rank more
-pub free-start : (N n : ℕ) (t : List ℕ) → 0 ≡ countBelow (0 * n) (isFree N n t)
-free-start N n t = let z : 0 * n ≡ 0 = omega arith in rw z (sym (count-none (isFree N n t)))
-
-pub free-next : (N n : ℕ) (t : List ℕ) (i free more : ℕ) → free ≡ countBelow (i * n) (isFree N n t)
-    → more ≡ countBelow n (λ d. isFree N n t (i * n + d)) → free + more ≡ countBelow ((i + 1) * n) (isFree N n t)
-free-next N n t i free more e q = let z : (i + 1) * n ≡ i * n + n = omega arith in rw (z, e, q) (sym (count-on (isFree N n t) (i * n) n))
-
+-- every rank
 pub free-end : (N n : ℕ) (t : List ℕ) (i free : ℕ) → i ≡ N + 1 → free ≡ countBelow (i * n) (isFree N n t) → free ≡ freePairs N n t
 unfolding freePairs isFree
-free-end N n t i free e c = let z : i * n ≡ size N n = rw e (omega arith) in c ∙ ap (λ (x : ℕ). countBelow x (isFree N n t)) z
+free-end N n t i free e c = rows-end (isFree N n t) N n i free e c
 
 -- floods of the cells of rank i have come to dart d
 pub record Swept (N n : ℕ) (t : List ℕ) (i d tail found : ℕ) (w : List ℕ) : Type 0 where

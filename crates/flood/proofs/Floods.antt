@@ -1,7 +1,7 @@
 -- Laws of the flood, for any ranks kept, one turn of a loop at a time. Rests on Sets and Queues.
 use Prim.Native.Nat.{ℕ, _+_, _-_, _≤_, _<_}
 use mathlib.Core.Path.{_≡_, sym, _∙_}
-use mathlib.Core.Logic.{_⊎_, inl, inr}
+use mathlib.Core.Logic.{_≢_, _⊎_, inl, inr}
 use mathlib.Core.Bool.{Bool, true, _||_}
 use mathlib.Core.List.{List}
 use native.Mathlib.Omega.{arith}
@@ -19,20 +19,20 @@ use Rattle.flood.proofs.Queues.{Entered, extended-refl, extended-marked
 pub linked-trans : {keep : ℕ → Bool} {N n : ℕ} {t : List ℕ} {d c e m f k : ℕ} → Linked keep N n t d c e m → Linked keep N n t e m f k
     → Linked keep N n t d c f k
 linked-trans r Linked.here = r
-linked-trans r (Linked.onward i h k s) = Linked.onward i h k (linked-trans r s)
+linked-trans r (Linked.onward i h k ne s) = Linked.onward i h k ne (linked-trans r s)
 
 pub linked-wider : {keep keep' : ℕ → Bool} {N n : ℕ} {t : List ℕ} {d c e m : ℕ} → ((i : ℕ) → i ≤ N → keep i ≡ true → keep' i ≡ true)
     → Linked keep N n t d c e m → Linked keep' N n t d c e m
 linked-wider f Linked.here = Linked.here
-linked-wider f (Linked.onward i h k r) = Linked.onward i h (f i h k) (linked-wider f r)
+linked-wider f (Linked.onward i h k ne r) = Linked.onward i h (f i h k) ne (linked-wider f r)
 
 pub linked-two : {keep : ℕ → Bool} {N n : ℕ} {t : List ℕ} {d c e m : ℕ} → c < 2 → Linked keep N n t d c e m → m < 2
 linked-two l Linked.here = l
-linked-two l (Linked.onward i h k r) = omega arith
+linked-two l (Linked.onward i h k ne r) = omega arith
 
 pub linked-reached : {keep : ℕ → Bool} {N n : ℕ} {t : List ℕ} {d c e m : ℕ} → Linked keep N n t d c e m → Reached keep N n t d e
 linked-reached Linked.here = Reached.here
-linked-reached (Linked.onward i h k r) = Reached.onward i h k (linked-reached r)
+linked-reached (Linked.onward i h k ne r) = Reached.onward i h k (linked-reached r)
 
 -- what leads to marked darts goes on to do so
 module _ (keep : ℕ → Bool) (N n : ℕ) (t : List ℕ) {tail tail' : ℕ} {w w' : List ℕ} (E : Extended n tail tail' w w') where
@@ -68,18 +68,25 @@ module _ {N n : ℕ} {t : List ℕ} where
   spread-none from Q = record { on = extended-refl Q; traced = λ p h k. absurd (omega arith); around = λ i h k. absurd (between-none from i k) }
 
   -- one rank, as the code does it
-  pub spread-one : {rank tail d class tail' : ℕ} {w w' : List ℕ} → Queue n tail w → rank ≤ N → link N n t rank d < n → class < 2 → class ≡ 1 - getD w d 0
-      → tail' ≡ enteredTail w tail (link N n t rank d) → w' ≡ enteredRoom n w tail (link N n t rank d) class
+  pub spread-one : {rank tail d class tail' : ℕ} {w w' : List ℕ} → Queue n tail w → rank ≤ N → link N n t rank d < n → getD w d 0 < 2
+      → class ≡ 1 - getD w d 0 → tail' ≡ enteredTail w tail (link N n t rank d) → w' ≡ enteredRoom n w tail (link N n t rank d) class
       → SpreadFrom (between rank (rank + 1)) N n t d tail tail' w w'
-  spread-one {rank} {tail} {d} {class} {tail'} {w} {w'} Q hr hl hc ec et ew = record { on = E .on; traced = traced; around = around }
+  spread-one {rank} {tail} {d} {class} {tail'} {w} {w'} Q hr hl h2 ec et ew = record { on = E .on; traced = traced; around = around }
     where
       E : Entered n (link N n t rank d) class tail tail' w w'
-      E = rw (et, ew) (entry Q hl hc)
+      E = rw (et, ew) (entry Q hl (omega arith))
+
+      -- what is new has the other class, so it is another dart
+      joins : (p : ℕ) → queued n w' p ≡ link N n t rank d → getD w' (queued n w' p) 0 ≡ class → link N n t rank d ≢ d
+      joins p a b z =
+          let same = extended-class (E .on) (rw z at hl) h2 in
+          let other = rw (a, z) at b in
+          omega arith
 
       traced : Traced (between rank (rank + 1)) N n t d (getD w d 0) tail tail' w'
       traced p h k =
           let (a, b) = E .only p h k in
-          rw (b, a, ec) (Linked.onward rank hr (between-yes rank (rank + 1) rank (omega arith) (omega arith)) Linked.here)
+          rw (b, a, ec) (Linked.onward rank hr (between-yes rank (rank + 1) rank (omega arith) (omega arith)) (joins p a b) Linked.here)
 
       around : Around (between rank (rank + 1)) N n t d w'
       around i h k = let e : i ≡ rank = between-only rank i k in rw e (hl, E .marked)

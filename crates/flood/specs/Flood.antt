@@ -63,10 +63,11 @@ pub record Extended (n tail tail' : ℕ) (w w' : List ℕ) : Type 0 where
   pub classes : (d : ℕ) → d < n → Marked w d → getD w' d 0 ≡ getD w d 0
   pub places : (p : ℕ) → p < tail → queued n w' p ≡ queued n w p
 
--- dart e is reached from dart d by links of the ranks kept, and where d has class c it has class m: each link leads to the other class
+-- dart e is reached from dart d by links of the ranks kept that join two different darts, and where d has class c it has class m: each link leads to
+-- the other class
 pub data Linked (keep : ℕ → Bool) (N n : ℕ) (t : List ℕ) (d c : ℕ) : ℕ → ℕ → Type 0 where
   here : Linked keep N n t d c d c
-  onward : {e m : ℕ} (i : ℕ) → i ≤ N → keep i ≡ true → Linked keep N n t d c e m → Linked keep N n t d c (link N n t i e) (1 - m)
+  onward : {e m : ℕ} (i : ℕ) → i ≤ N → keep i ≡ true → link N n t i e ≢ e → Linked keep N n t d c e m → Linked keep N n t d c (link N n t i e) (1 - m)
 
 -- each dart of the queue from one place up to another is linked so from dart d
 abbrev pub Traced : (ℕ → Bool) → ℕ → ℕ → List ℕ → ℕ → ℕ → ℕ → ℕ → List ℕ → Type 0

@@ -150,8 +150,8 @@ pub fn flood_on(
     end
 }
 
-// All that links of a set of ranks reach from a dart is marked; the dart gets a class, and each link leads to the
-// other one.
+// All that links of a set of ranks reach from a dart is marked; the dart gets a class, and each link to another dart
+// leads to the other one: a link that stays in place leads to a dart that has its class already.
 pub fn flood(
     tables: &[u16],
     work: &mut [u16],

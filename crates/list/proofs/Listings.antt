@@ -9,7 +9,7 @@ use Rattle.rules.specs.declared.ReadAnswer.{ReadAnswer}
 use Rattle.rules.specs.declared.ReportAnswer.{ReportAnswer}
 use Rattle.rules.specs.Check.{Verdict, verdict}
 use Rattle.rules.specs.Reading.{readAnswer, readTables}
-use Rattle.rules.specs.Report.{cellCounts, freePairs, reportAnswer, reportAnswerOf}
+use Rattle.rules.specs.Report.{cellCounts, freePairs, orientable, reportAnswer, reportAnswerOf}
 use Rattle.rules.proofs.Check.{passes-fine}
 use Rattle.rules.proofs.Codes.{Bytes}
 use Rattle.rules.proofs.Sound.{sound}
@@ -36,10 +36,11 @@ module _ (bytes t work : List ℕ) where
         connected = a .connected;
       })
 
-  -- an accepted stream lists its map, with the map's own cells and free pairs
+  -- an accepted stream lists its map, with the map's own cells and free pairs and whether it is orientable
   pub lists-map : Bytes bytes → answer .number ≡ 0 → 2 * answer .darts ≤ length work
       → listing answer report tables ≡ mapText (answer .dim) (answer .darts) (answer .steps)
-      (cellCounts (answer .dim) (answer .darts) tables) (freePairs (answer .dim) (answer .darts) tables) tables
+      (cellCounts (answer .dim) (answer .darts) tables) (freePairs (answer .dim) (answer .darts) tables)
+      (orientable (answer .dim) (answer .darts) tables) tables
   unfolding listing textBy reportAnswer reportAnswerOf
   lists-map B e h = rw (fine B e h, eq-eqb (answer .number) 0 e) refl
 

@@ -63,10 +63,10 @@ fn work_room() -> [u16; 8192]
 }
 
 // Room for the longest text.
-fn text_room() -> [u8; 688392]
-    ensures { λ r. ⌜ 688392 ≡ length r ⌝ }
+fn text_room() -> [u8; 688407]
+    ensures { λ r. ⌜ 688407 ≡ length r ⌝ }
 {
-    [0; 688392]
+    [0; 688407]
 }
 
 // The listing, as one text.

@@ -17,6 +17,6 @@ module _ (a : ReadAnswer) (r : ReportAnswer) (t : List ℕ) where
   unfolding listing textBy
   refused-report e h = rw (eq-eqb (a .number) 0 e, ne-eqb (r .number) 0 h) refl
 
-  pub read-map : a .number ≡ 0 → r .number ≡ 0 → mapText (a .dim) (a .darts) (a .steps) (r .cells) (r .free) t ≡ listing a r t
+  pub read-map : a .number ≡ 0 → r .number ≡ 0 → mapText (a .dim) (a .darts) (a .steps) (r .cells) (r .free) (r .orientable) t ≡ listing a r t
   unfolding listing textBy
   read-map e h = rw (eq-eqb (a .number) 0 e, eq-eqb (r .number) 0 h) refl

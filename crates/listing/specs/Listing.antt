@@ -1,4 +1,4 @@
--- Document 01, "Listing program": the text of a listing, as ASCII bytes; every line ends by LF.
+-- Document 01, "Listing program", with the last line of document 02, E2: the text of a listing, as ASCII bytes; every line ends by LF.
 use Prim.Native.Nat.{ℕ, suc}
 use mathlib.Core.List.{List, [], _∷_, _++_}
 use mathlib.Core.Bool.{Bool, true, false}
@@ -39,21 +39,26 @@ freeLine n = (102 ∷ 114 ∷ 101 ∷ 101 ∷ []) ++ (spaced n ++ lineEnd)
 unfoldable pub stepsLine : ℕ → List ℕ
 stepsLine n = (115 ∷ 116 ∷ 101 ∷ 112 ∷ 115 ∷ []) ++ (spaced n ++ lineEnd)
 
+-- "orientable yes" or "orientable no"
+unfoldable pub orientableLine : Bool → List ℕ
+orientableLine true = 111 ∷ 114 ∷ 105 ∷ 101 ∷ 110 ∷ 116 ∷ 97 ∷ 98 ∷ 108 ∷ 101 ∷ 32 ∷ 121 ∷ 101 ∷ 115 ∷ lineEnd
+orientableLine false = 111 ∷ 114 ∷ 105 ∷ 101 ∷ 110 ∷ 116 ∷ 97 ∷ 98 ∷ 108 ∷ 101 ∷ 32 ∷ 110 ∷ 111 ∷ lineEnd
+
 -- "refused", number, "at", place
 unfoldable pub refusalLine : ℕ → ℕ → List ℕ
 refusalLine nr p =
     (114 ∷ 101 ∷ 102 ∷ 117 ∷ 115 ∷ 101 ∷ 100 ∷ []) ++ (spaced nr ++ ((32 ∷ 97 ∷ 116 ∷ []) ++ (spaced p ++ lineEnd)))
 
 -- the listing of a map that was read
-unfoldable pub mapText : ℕ → ℕ → ℕ → List ℕ → ℕ → List ℕ → List ℕ
-mapText N n steps cells free t =
-    firstLine N n ++ (dartLines N n t ++ (cellsLine N cells ++ (freeLine free ++ stepsLine steps)))
+unfoldable pub mapText : ℕ → ℕ → ℕ → List ℕ → ℕ → Bool → List ℕ → List ℕ
+mapText N n steps cells free orientable t =
+    firstLine N n ++ (dartLines N n t ++ (cellsLine N cells ++ (freeLine free ++ (stepsLine steps ++ orientableLine orientable))))
 
 -- the text, by whether the reading was accepted and the report
 unfoldable pub textBy : Bool → Bool → ReadAnswer → ReportAnswer → List ℕ → List ℕ
 textBy false reported a r t = refusalLine (a .number) (a .place)
 textBy true false a r t = refusalLine (r .number) (r .place)
-textBy true true a r t = mapText (a .dim) (a .darts) (a .steps) (r .cells) (r .free) t
+textBy true true a r t = mapText (a .dim) (a .darts) (a .steps) (r .cells) (r .free) (r .orientable) t
 
 -- a refusal prints only itself; the report of a map that was read is never one
 unfoldable pub listing : ReadAnswer → ReportAnswer → List ℕ → List ℕ

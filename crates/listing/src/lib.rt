@@ -8,7 +8,8 @@ ghost use Rattle.io.specs.Counts.{Counts};
 ghost use Rattle.rules.specs.Map.{Limits};
 ghost use Rattle.words.specs.Room.{TextPut, begun};
 ghost use Rattle.words.specs.Words.{spaced, each};
-ghost use Rattle.listing.specs.Listing.{links, dartLine, dartLines, cellsLine, mapText, refusalLine, listing};
+ghost use Rattle.listing.specs.Listing.{links, dartLine, dartLines, cellsLine};
+ghost use Rattle.listing.specs.Listing.{orientableLine, mapText, refusalLine, listing};
 
 // The links of a dart, a0 to aN.
 pub fn put_links(
@@ -99,6 +100,18 @@ pub fn put_cells(out: &mut [u8], at: usize, dim: usize, cells: [u32; 7]) -> usiz
     words::put(out, counts, b"\n")
 }
 
+// The last line: is the map orientable?
+pub fn put_orientable(out: &mut [u8], at: usize, orientable: bool) -> usize
+    requires { ⌜ at + 15 ≤ length (now out) ⌝ }
+    ensures { λ r. ⌜ TextPut (now (out .entry)) at (orientableLine orientable) (now (out .exit)) r ⌝ }
+    ensures { λ r. ⌜ r ≤ at + 15 ⌝ }
+{
+    if orientable {
+        return words::put(out, at, b"orientable yes\n");
+    }
+    words::put(out, at, b"orientable no\n")
+}
+
 // The listing of a map that was read.
 pub fn put_map(
     out: &mut [u8],
@@ -107,18 +120,20 @@ pub fn put_map(
     steps: u32,
     cells: [u32; 7],
     free: u32,
+    orientable: bool,
     tables: &[u16],
 ) -> usize
-    requires { ⌜ Limits dim darts (now tables) × (688392 ≤ length (now out)) ⌝ }
+    requires { ⌜ Limits dim darts (now tables) × (688407 ≤ length (now out)) ⌝ }
     ensures { λ r. ⌜ TextPut (now (out .entry)) 0
-        (mapText dim darts steps cells free (now (tables .entry))) (now (out .exit)) r ⌝ }
-    ensures { λ r. ⌜ r ≤ 688392 ⌝ }
+        (mapText dim darts steps cells free orientable (now (tables .entry))) (now (out .exit)) r ⌝ }
+    ensures { λ r. ⌜ r ≤ 688407 ⌝ }
 {
     let first = words::put_pair(out, 0, b"dimension", dim as u64, b" darts", darts as u64);
     let lines = put_darts(out, first, tables, dim, darts);
     let counts = put_cells(out, lines, dim, cells);
     let pairs = words::put_line(out, counts, b"free", wide(free));
-    words::put_line(out, pairs, b"steps", wide(steps))
+    let done = words::put_line(out, pairs, b"steps", wide(steps));
+    put_orientable(out, done, orientable)
 }
 
 // A refusal's line.
@@ -132,7 +147,7 @@ pub fn put_refusal(out: &mut [u8], number: u32, place: u32) -> usize
 
 // The text of a listing: what was read and its report, or the refusal of either.
 pub fn put(out: &mut [u8], a: ReadAnswer, r: ReportAnswer, tables: &[u16]) -> usize
-    requires { ⌜ (r .number ≡ 0 → Limits (a .dim) (a .darts) (now tables)) × (688392 ≤ length (now out)) ⌝ }
+    requires { ⌜ (r .number ≡ 0 → Limits (a .dim) (a .darts) (now tables)) × (688407 ≤ length (now out)) ⌝ }
     ensures { λ k. let text = listing a r (now (tables .entry)) in
         ⌜ (k ≡ length text) × (now (out .exit) ≡ begun text (now (out .entry))) ⌝ }
     ensures { λ k. ⌜ Counts k (now (out .exit)) ⌝ }
@@ -151,6 +166,7 @@ pub fn put(out: &mut [u8], a: ReadAnswer, r: ReportAnswer, tables: &[u16]) -> us
         a.steps,
         cells,
         r.free,
+        r.orientable,
         tables,
     )
 }

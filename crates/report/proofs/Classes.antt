@@ -1,24 +1,26 @@
--- Laws of the two classes: where all darts are reached from dart 0 each has one, by the number of links, and if any two classes do, these do.
--- Rests on the flood's Floods and the rules' Orbits and Cells.
+-- Laws of the two classes: where all darts are reached from dart 0 each has one, by the number of links, and if any two classes do, these do: exactly if
+-- the links that stay within a class are those that stay in place. Rests on the flood's Floods, the counts' Counts and the rules' Orbits and Cells.
 use Prim.Native.Nat.{ℕ, zero, suc, _+_, _*_, _-_, _/_, _%_, _≤_, _<_}
 use mathlib.Core.Path.{_≡_, refl, ap, sym, _∙_}
 use mathlib.Core.Logic.{_≢_}
-use mathlib.Core.Bool.{Bool, true, false, not}
+use mathlib.Core.Bool.{Bool, true, false, not, _&&_, cond}
 use mathlib.Core.List.{List}
 use native.Mathlib.Omega.{arith}
-use native.Mathlib.Decide.{ℕ-discrete}
 use lib.ListN.{getD}
 use lib.Dec.{eqb}
-use borrow.Author.Tests.{eqb-true, eqb-false, eq-eqb, ne-eqb}
-use Rattle.rules.specs.Lists.{first}
-use Rattle.rules.specs.Map.{size, link, allRanks, Valid}
-use Rattle.rules.specs.Report.{orientable}
-use Rattle.rules.proofs.Lists.{Sought, sought-start, first-le, first-passes, first-before}
+use borrow.Author.Tests.{eqb-true, eqb-false, eq-eqb, ne-eqb, not-true}
+use Rattle.rules.specs.Lists.{someBelow, countBelow}
+use Rattle.rules.specs.Map.{size, place, link, allRanks, Valid, Limits}
+use Rattle.rules.specs.Report.{freePairs, orientable}
+use Rattle.rules.proofs.Lists.{and-left, and-right, not-both, some-below, below-some}
 use Rattle.rules.proofs.Places.{nth-rank, nth-dart, nth-below, rank-nth, dart-nth}
-use Rattle.rules.proofs.Orbits.{valid-closed, reached-below}
+use Rattle.rules.proofs.Orbits.{valid-closed, reached-below, count-wider}
 use Rattle.rules.proofs.Cells.{Orientable, orientable-sound, orientable-complete}
+use Rattle.tables.proofs.Laws.{entry-link}
 use Rattle.flood.specs.Flood.{Linked}
 use Rattle.flood.proofs.Floods.{linked-two, linked-reached}
+use Rattle.counts.specs.Tests.{isFree}
+use Rattle.counts.proofs.Counts.{count-yes, count-no}
 use Rattle.report.specs.Spans.{Spanned, AllMarked}
 use Rattle.report.specs.Tests.{alike}
 
@@ -47,70 +49,108 @@ other-one zero (suc (suc b)) h k e = absurd (omega arith)
 other-one (suc zero) (suc (suc b)) h k e = absurd (omega arith)
 other-one (suc (suc a)) b h k e = absurd (omega arith)
 
--- the test of the code, x being the link that it read
-module _ (N n : ℕ) (t w : List ℕ) (i d x : ℕ) (hd : d < n) (e : x ≡ link N n t i d) where
-  alike-test : alike N n t w (i * n + d) ≡ eqb (getD w d 0) (getD w x 0)
+-- the test of the code, x being the entry that it read
+module _ (N n : ℕ) (t w : List ℕ) (i d x : ℕ) (L : Limits N n t) (hi : i ≤ N) (hd : d < n) (e : x ≡ getD t (place N n i d) 0) where
+  entry-link-at : x ≡ link N n t i d
+  entry-link-at = e ∙ entry-link N n t i d L hi hd
+
+  pub entry-below : Valid N n t → x < n
+  entry-below v = rw entry-link-at (v .inside i d hi hd)
+
+  abbrev ranked : ℕ → Bool
+  ranked d = alike N n t w (i * n + d)
+
+  alike-test : ranked d ≡ eqb (getD w d 0) (getD w x 0)
   unfolding alike
-  alike-test = rw (rank-nth n i d hd, dart-nth n i d hd, e)
+  alike-test = rw (rank-nth n i d hd, dart-nth n i d hd, entry-link-at)
 
-  pub alike-yes : getD w d 0 ≡ getD w x 0 → alike N n t w (i * n + d) ≡ true
-  alike-yes h = alike-test ∙ eq-eqb (getD w d 0) (getD w x 0) h
+  pub alike-yes : (c : ℕ) → getD w d 0 ≡ getD w x 0 → c ≡ countBelow d ranked → c + 1 ≡ countBelow (d + 1) ranked
+  alike-yes c h q = ap (λ (y : ℕ). y + 1) q ∙ sym (count-yes ranked d (alike-test ∙ eq-eqb (getD w d 0) (getD w x 0) h))
 
-  pub alike-no : getD w d 0 ≢ getD w x 0 → alike N n t w (i * n + d) ≡ false
-  alike-no h = alike-test ∙ ne-eqb (getD w d 0) (getD w x 0) h
-
--- a search by ranks starts at the first link
-pub rows-start : (f : ℕ → Bool) (k n : ℕ) → Sought f k (0 * n)
-rows-start f k n = let z : 0 * n ≡ 0 = omega arith in rw z (sought-start f k)
+  pub alike-no : (c : ℕ) → getD w d 0 ≢ getD w x 0 → c ≡ countBelow d ranked → c ≡ countBelow (d + 1) ranked
+  alike-no c h q = q ∙ sym (count-no ranked d (alike-test ∙ ne-eqb (getD w d 0) (getD w x 0) h))
 
 -- any classes that do agree with the numbers of links from a dart of class 0
 linked-class : {keep : ℕ → Bool} {N n : ℕ} {t : List ℕ} {s d m : ℕ} (v : Valid N n t) (O : Orientable N n t) → s < n
     → Linked keep N n t s 0 d m → O .class d ≡ turn m (O .class s)
 unfolding turn
 linked-class v O h Linked.here = refl
-linked-class {s = s} v O h (Linked.onward {e} {m} i hi k r) =
+linked-class {s = s} v O h (Linked.onward {e} {m} i hi k ne r) =
     let below = reached-below (valid-closed v) h (linked-reached r) in
-    O .other i e hi below ∙ (ap not (linked-class v O h r) ∙ sym (turn-next m (O .class s) (linked-two (omega arith) r)))
+    O .other i e hi below ne ∙ (ap not (linked-class v O h r) ∙ sym (turn-next m (O .class s) (linked-two (omega arith) r)))
 
 -- every dart has a class
 module _ {N n top : ℕ} {t w : List ℕ} (v : Valid N n t) (h1 : 1 ≤ n) (S : Spanned N n t top w) (all : AllMarked n w) where
   linked-all : (d : ℕ) → d < n → Linked allRanks N n t 0 0 d (getD w d 0)
   linked-all d h = S .linked d h (all d h)
 
-  -- no link stays within a class: the classes do
-  apart-orientable : first (alike N n t w) (size N n) ≡ size N n → Orientable N n t
-  unfolding alike
+  -- the k-th link joins two different darts of one class
+  joins : ℕ → Bool
+  joins k = alike N n t w k && not (isFree N n t k)
+
+  -- a link that stays in place stays within a class
+  free-alike : (k : ℕ) → isFree N n t k ≡ true → alike N n t w k ≡ true
+  unfolding alike isFree
+  free-alike k e = rw (eqb-true (link N n t (k / n) (k % n)) (k % n) e) (eq-eqb (getD w (k % n) 0) (getD w (k % n) 0) refl)
+
+  -- no link joins two darts of one class: links within one stay in place
+  alike-free : someBelow (size N n) joins ≡ false → (k : ℕ) → k < size N n → alike N n t w k ≡ true → isFree N n t k ≡ true
+  unfolding joins
+  alike-free q k h a = go (isFree N n t k) refl
+    where
+      go : (b : Bool) → isFree N n t k ≡ b → isFree N n t k ≡ true
+      go true e = e
+      go false e = absurd (not-both (someBelow (size N n) joins) (below-some (size N n) joins k h (rw (a, e))) q)
+
+  -- and the classes do
+  apart-orientable : someBelow (size N n) joins ≡ false → Orientable N n t
+  unfolding alike isFree
   apart-orientable q = record { class = λ d. eqb (getD w d 0) 1; other = other }
     where
-      other : (i d : ℕ) → i ≤ N → d < n → eqb (getD w (link N n t i d) 0) 1 ≡ not (eqb (getD w d 0) 1)
-      other i d hi hd =
-          let a = first-before (alike N n t w) (size N n) (i * n + d) (omega (arith, nth-below N n i d hi hd)) in
-          let b = rw (rank-nth n i d hd, dart-nth n i d hd) at a in
+      other : (i d : ℕ) → i ≤ N → d < n → link N n t i d ≢ d → eqb (getD w (link N n t i d) 0) 1 ≡ not (eqb (getD w d 0) 1)
+      other i d hi hd ne =
+          let x = link N n t i d in
+          let a = alike-free q (i * n + d) (nth-below N n i d hi hd) in
+          let b : eqb (getD w d 0) (getD w x 0) ≡ true → eqb x d ≡ true = rw (rank-nth n i d hd, dart-nth n i d hd) at a in
           let two = linked-two (omega arith) (linked-all d hd) in
-          let too = linked-two (omega arith) (linked-all (link N n t i d) (v .inside i d hi hd)) in
-          other-one (getD w d 0) (getD w (link N n t i d) 0) two too (eqb-false (getD w d 0) (getD w (link N n t i d) 0) b)
+          let too = linked-two (omega arith) (linked-all x (v .inside i d hi hd)) in
+          other-one (getD w d 0) (getD w x 0) two too (λ z. ne (eqb-true x d (b (eq-eqb (getD w d 0) (getD w x 0) z))))
 
-  -- a link stays within a class: no classes do
-  alike-refutes : first (alike N n t w) (size N n) < size N n → Orientable N n t → ⊥
-  unfolding alike
-  alike-refutes q O = same (first (alike N n t w) (size N n)) q (first-passes (alike N n t w) (size N n) q)
+  -- a link joins two darts of one class: no classes do
+  alike-refutes : someBelow (size N n) joins ≡ true → Orientable N n t → ⊥
+  unfolding joins alike isFree
+  alike-refutes q O = let (k, h, e) = some-below (size N n) joins q in same k h e
     where
-      joined : (i d : ℕ) → i ≤ N → d < n → getD w d 0 ≡ getD w (link N n t i d) 0 → ⊥
-      joined i d hi hd e =
+      joined : (i d : ℕ) → i ≤ N → d < n → getD w d 0 ≡ getD w (link N n t i d) 0 → link N n t i d ≢ d → ⊥
+      joined i d hi hd e ne =
           let a = linked-class v O (omega arith) (linked-all d hd) in
           let b = linked-class v O (omega arith) (linked-all (link N n t i d) (v .inside i d hi hd)) in
-          not-own (O .class d) (a ∙ (ap (λ (x : ℕ). turn x (O .class 0)) e ∙ (sym b ∙ O .other i d hi hd)))
+          not-own (O .class d) (a ∙ (ap (λ (x : ℕ). turn x (O .class 0)) e ∙ (sym b ∙ O .other i d hi hd ne)))
 
-      same : (k : ℕ) → k < size N n → alike N n t w k ≡ true → ⊥
-      same k h e = joined (k / n) (k % n) (nth-rank N n k h1 h) (nth-dart n k h1) (eqb-true (getD w (k % n) 0) (getD w (link N n t (k / n) (k % n)) 0) e)
+      same : (k : ℕ) → k < size N n → joins k ≡ true → ⊥
+      same k h e =
+          let x = link N n t (k / n) (k % n) in
+          let a = and-left (eqb (getD w (k % n) 0) (getD w x 0)) (not (eqb x (k % n))) e in
+          let b = and-right (eqb (getD w (k % n) 0) (getD w x 0)) (not (eqb x (k % n))) e in
+          joined (k / n) (k % n) (nth-rank N n k h1 h) (nth-dart n k h1) (eqb-true (getD w (k % n) 0) (getD w x 0) a)
+          (eqb-false x (k % n) (not-true (eqb x (k % n)) b))
 
-  pub classes-tell : (r k : ℕ) → k ≡ size N n → r ≡ first (alike N n t w) (size N n) → eqb r k ≡ orientable N n t
-  classes-tell r k s e = rw (e, s) (go (ℕ-discrete (first (alike N n t w) (size N n)) (size N n)))
+  -- as many links stay within a class as pairs are free: the map is orientable
+  pub classes-tell : (a f : ℕ) → a ≡ countBelow (size N n) (alike N n t w) → f ≡ freePairs N n t → eqb a f ≡ orientable N n t
+  unfolding freePairs isFree joins
+  classes-tell a f ea ef = go (someBelow (size N n) joins) refl
     where
-      never : first (alike N n t w) (size N n) < size N n → (b : Bool) → orientable N n t ≡ b → false ≡ b
+      -- the links that stay in place are some of those
+      more : (b : Bool) → someBelow (size N n) joins ≡ b → cond b 1 0 + f ≤ a
+      more b e = rw (← e, ea, ef) (count-wider (size N n) (isFree N n t) (alike N n t w) (λ k h. free-alike k))
+
+      no-more : someBelow (size N n) joins ≡ false → a ≤ f
+      no-more e = rw (ea, ef) (omega (arith, count-wider (size N n) (alike N n t w) (isFree N n t) (alike-free e)))
+
+      never : someBelow (size N n) joins ≡ true → (b : Bool) → orientable N n t ≡ b → false ≡ b
       never h false q = refl
       never h true q = absurd (alike-refutes h (orientable-sound (valid-closed v) h1 q))
 
-      go : Dec (first (alike N n t w) (size N n) ≡ size N n) → eqb (first (alike N n t w) (size N n)) (size N n) ≡ orientable N n t
-      go (yes q) = eq-eqb (first (alike N n t w) (size N n)) (size N n) q ∙ sym (orientable-complete (valid-closed v) h1 (apart-orientable q))
-      go (no q) = ne-eqb (first (alike N n t w) (size N n)) (size N n) q ∙ never (omega (arith, first-le (alike N n t w) (size N n))) (orientable N n t) refl
+      go : (b : Bool) → someBelow (size N n) joins ≡ b → eqb a f ≡ orientable N n t
+      go false e = eq-eqb a f (omega (arith, more false e, no-more e)) ∙ sym (orientable-complete (valid-closed v) h1 (apart-orientable e))
+      go true e = ne-eqb a f (λ z. omega (arith, more true e)) ∙ never e (orientable N n t) refl

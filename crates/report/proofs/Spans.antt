@@ -2,7 +2,7 @@
 -- Rests on the flood's Orbits and the rules' Cells.
 use Prim.Native.Nat.{ℕ, zero, suc, _+_, _*_, _-_, _≤_, _<_}
 use mathlib.Core.Path.{_≡_, refl, ap, sym, _∙_}
-use mathlib.Core.Logic.{_⊎_, inl, inr}
+use mathlib.Core.Logic.{_≢_, _⊎_, inl, inr}
 use mathlib.Core.Bool.{true}
 use mathlib.Core.List.{List, [], _∷_}
 use native.Mathlib.Omega.{arith}
@@ -148,8 +148,12 @@ module _ {N n head tail count : ℕ} {t w : List ℕ} (v : Valid N n t) (h : hea
         E : Extended n tail tail' w w'
         E = flooded-on (R .queue) across-below hc F
 
+        -- d has a class and x has none
+        joins : link N n t N d ≢ d
+        joins z = let q : getD w d 0 ≡ mark = rw (ex, z) at u in omega (arith, head-class)
+
         from : Linked allRanks N n t 0 0 x class
-        from = rw (ex, ec) (Linked.onward N (omega arith) (ranked N) (R .linked d head-below (λ q. omega (arith, head-class))))
+        from = rw (ex, ec) (Linked.onward N (omega arith) (ranked N) joins (R .linked d head-below (λ q. omega (arith, head-class))))
 
 -- every dart of the queue has been at the head: all that is reached is marked
 pub spun-end : {N n head tail count : ℕ} {t w : List ℕ} → Valid N n t → 0 < n → Spun N n t head tail count w → tail ≤ head → Spanned N n t count w

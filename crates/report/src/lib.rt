@@ -4,7 +4,7 @@ use rules::Session;
 ghost use mathlib.Core.Path.{_≡_};
 ghost use Prim.Native.Nat.{_+_, _*_, _≤_, _<_};
 ghost use lib.ListN.{length, drop};
-ghost use Rattle.rules.specs.Lists.{first};
+ghost use Rattle.rules.specs.Lists.{countBelow};
 ghost use Rattle.rules.specs.Map.{Limits, Valid, size, blank};
 ghost use Rattle.rules.specs.Report.{reportAnswer, reportWork};
 ghost use Rattle.report.specs.Answer.{refusalOf, countedOf};
@@ -17,38 +17,38 @@ pub struct Spanning {
     pub cells: u32,
 }
 
-// The first dart whose link of one rank stays within a class, or n.
-pub fn alike_at(tables: &[u16], work: &[u16], dim: usize, darts: usize, rank: usize) -> usize
+// The number of links of one rank that stay within a class. A count and no way out of the loop let the compiler go over
+// them without a branch.
+pub fn alike_at(tables: &[u16], work: &[u16], dim: usize, darts: usize, rank: usize) -> u16
     requires { ⌜ Limits dim darts (now tables) × Valid dim darts (now tables) × (darts ≤ length (now work))
         × (rank ≤ dim) ⌝ }
     ensures { λ r. ⌜ r
-        ≡ first (λ d. alike dim darts (now (tables .entry)) (now (work .entry)) (rank * darts + d)) darts ⌝ }
+        ≡ countBelow darts (λ d. alike dim darts (now (tables .entry)) (now (work .entry)) (rank * darts + d)) ⌝ }
 {
+    let mut alike: u16 = 0;
     let mut d = 0;
     while d < darts {
-        let x = tables::link_at(tables, dim, darts, rank, d as u16) as usize;
+        let x = tables[tables::place(dim, darts, rank, d)] as usize;
         if work[d] == work[x] {
-            return d;
+            alike += 1;
         }
         d += 1;
     }
-    d
+    alike
 }
 
-// The first link, counted by rank, then dart, that stays within a class, or (N+1)·n.
-pub fn first_alike(tables: &[u16], work: &[u16], dim: usize, darts: usize) -> usize
+// The number of links that stay within a class.
+pub fn links_alike(tables: &[u16], work: &[u16], dim: usize, darts: usize) -> u32
     requires { ⌜ Limits dim darts (now tables) × Valid dim darts (now tables) × (darts ≤ length (now work)) ⌝ }
-    ensures { λ r. ⌜ r ≡ first (alike dim darts (now (tables .entry)) (now (work .entry))) (size dim darts) ⌝ }
+    ensures { λ r. ⌜ r ≡ countBelow (size dim darts) (alike dim darts (now (tables .entry)) (now (work .entry))) ⌝ }
 {
+    let mut alike: u32 = 0;
     let mut rank = 0;
     while rank <= dim {
-        let d = alike_at(tables, work, dim, darts, rank);
-        if d < darts {
-            return rank * darts + d;
-        }
+        alike += alike_at(tables, work, dim, darts, rank) as u32;
         rank += 1;
     }
-    rank * darts
+    alike
 }
 
 // The dart of the queue at `head`: where its aN has no mark, an N-cell begins there, and a flood by all other ranks
@@ -112,16 +112,16 @@ pub fn refusal(number: u32, place: u32) -> ReportAnswer
     }
 }
 
-// The answer for a connected map. If any two classes do, those by the number of links from dart 0 do, so the first
-// link that stays within a class tells.
+// The answer for a connected map. If any two classes do, those by the number of links from dart 0 do. A link that stays
+// in place stays within a class; so they do exactly if no other link does: if as many links stay within a class as
+// pairs are free.
 pub fn counted(tables: &[u16], work: &mut [u16], dim: usize, darts: usize, top: u32) -> ReportAnswer
     requires { ⌜ Limits dim darts (now tables) × Valid dim darts (now tables) × (2 * darts ≤ length (now work))
         × Spanned dim darts (now tables) top (now work) × AllMarked darts (now work) ⌝ }
     ensures { λ r. ⌜ (r ≡ countedOf dim darts (now (tables .entry)))
         × (now (work .exit) ≡ blank (2 * darts) (now (work .entry))) ⌝ }
 {
-    let size = (dim + 1) * darts;
-    let orientable = first_alike(tables, work, dim, darts) == size;
+    let alike = links_alike(tables, work, dim, darts);
     let cells = counts::cell_counts(tables, work, dim, darts, top);
     let free = counts::free_pairs(tables, dim, darts);
     tables::blank(work, 2 * darts);
@@ -130,7 +130,7 @@ pub fn counted(tables: &[u16], work: &mut [u16], dim: usize, darts: usize, top: 
         place: 0,
         cells,
         free,
-        orientable,
+        orientable: alike == free,
     }
 }
 

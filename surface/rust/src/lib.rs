@@ -167,7 +167,8 @@ pub struct ReportAnswer {
     pub cells: [usize; MAX_DIM + 1],
     /// The number of free (rank, dart) pairs.
     pub free: usize,
-    /// Can the darts be put in two classes so that every link goes to the other class?
+    /// Can the darts be put in two classes so that every link from a dart to another one goes to the other class? The
+    /// link of a free dart, to itself, is left out: an open square is orientable, a Moebius band is not.
     pub orientable: bool,
 }
 

@@ -4,7 +4,7 @@ use mathlib.Core.Path.{_≡_}
 use native.Mathlib.Omega.{arith}
 use Rattle.rules.specs.Lists.{countBelow}
 use Rattle.counts.specs.Tests.{isFree}
-use Rattle.counts.proofs.Counts.{free-start, free-next, free-end}
+use Rattle.counts.proofs.Counts.{rows-none, rows-next, free-end}
 use Rattle.counts.proofs.free_pairs.Statement.{statement}
 use Rattle.counts.proofs.free_pairs.Tie as tie
 
@@ -15,7 +15,7 @@ abbrev μ-loop : tie.MeasureT-loop
 μ-loop tables dim darts free₀ rank₀ free rank = dim + 1 - rank
 
 loop-holds : tie.Need-loop-holds Inv-loop μ-loop
-loop-holds c = (omega arith, omega arith, free-start _ _ _)
+loop-holds c = (omega arith, omega arith, rows-none _ _)
 
 free-at-requires : tie.Need-free-at-requires Inv-loop μ-loop
 free-at-requires c κs = (c .before .before .before .pre, omega arith)
@@ -35,7 +35,7 @@ loop-less c = omega arith
 loop-again : tie.Need-loop-again Inv-loop μ-loop
 loop-again c =
     let l = c .before .before .loop in
-    (omega arith, omega arith, free-next _ _ _ (l .rank) (l .free) _ (l .inv .2) (c .free-at .ensures))
+    (omega arith, omega arith, rows-next _ _ (l .rank) (l .free) _ (l .inv .2) (c .free-at .ensures))
 
 returns : tie.Need-returns Inv-loop μ-loop
 returns c =

@@ -49,7 +49,7 @@ loop-again c =
     let S = l .inv .3 in
     let e = extended-class (S .on) (p .3) (p .5) in
     let inside = p .4 (l .i) (omega arith) (between-yes _ _ _ (omega arith) (omega arith)) in
-    let one = spread-one (S .on .queue) (omega arith) inside (omega arith) (rw e (p .6)) (k .ensures .0) (k .ensures .1) in
+    let one = spread-one (S .on .queue) (omega arith) inside (rw e (p .5)) (rw e (p .6)) (k .ensures .0) (k .ensures .1) in
     (k .kept .1 .0 ∙ l .inv .0, omega arith, omega arith, spread-join (p .3) (p .5) (λ j h. between-next (s .args .from) (l .i) j (l .inv .1)) S one)
 
 same-length : tie.Need-same-length Inv-loop μ-loop

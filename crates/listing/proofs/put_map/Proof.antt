@@ -1,5 +1,5 @@
 -- `listing::put_map` meets its contract: one text after the other, in room for the longest. Assumes nothing.
-use mathlib.Core.Path.{refl}
+use mathlib.Core.Path.{refl, _∙_}
 use native.Mathlib.Omega.{arith}
 use borrow.Author.Needs.{needs}
 use Rattle.listing.specs.Listing.{mapText, firstLine, freeLine, stepsLine}
@@ -50,13 +50,10 @@ put-line-requires-2 c κs =
     let pairs = c₄ .put-line .ensures in
     omega (arith, pairs .1, pairs .0 .room, counts .1, counts .0 .room, lines .1, lines .0 .room, first .1, first .0 .room, c₀ .pre .0 .darts .1, c₀ .pre .1)
 
-same-length : tie.Need-same-length
-same-length c = search needs
-
-returns : tie.Need-returns
-unfolding mapText firstLine freeLine stepsLine
-returns c =
-    let c₄ = c .before .before .before .before .before .before .before .before in
+put-orientable-requires : tie.Need-put-orientable-requires
+put-orientable-requires c κs =
+    let c₅ = c .before .before .before in
+    let c₄ = c₅ .before .before .before .before .before .before in
     let c₃ = c₄ .before .before .before .before .before .before in
     let c₂ = c₃ .before .before .before .before in
     let c₁ = c₂ .before .before .before .before in
@@ -65,10 +62,31 @@ returns c =
     let lines = c₂ .put-darts .ensures in
     let counts = c₃ .put-cells .ensures in
     let pairs = c₄ .put-line .ensures in
-    let steps = c .before .before .put-line2 .ensures in
-    let w = wrote-then (first .0) (wrote-then (lines .0) (wrote-then (counts .0) (wrote-then (pairs .0) (steps .0)))) in (
-      wrote-same w (rw (c₄ .before .wide .ensures, c .before .before .before .wide2 .ensures) refl),
-      omega (arith, first .1, lines .1, counts .1, pairs .1, steps .1, c₀ .pre .0 .darts .1),
+    let done = c₅ .put-line2 .ensures in
+    let room = done .0 .room ∙ (pairs .0 .room ∙ (counts .0 .room ∙ (lines .0 .room ∙ first .0 .room))) in
+    omega (arith, room, c₀ .pre .1, done .1, pairs .1, counts .1, lines .1, first .1, c₀ .pre .0 .darts .1)
+
+same-length : tie.Need-same-length
+same-length c = search needs
+
+returns : tie.Need-returns
+unfolding mapText firstLine freeLine stepsLine
+returns c =
+    let c₅ = c .before .before .before .before .before .before in
+    let c₄ = c₅ .before .before .before .before .before .before in
+    let c₃ = c₄ .before .before .before .before .before .before in
+    let c₂ = c₃ .before .before .before .before in
+    let c₁ = c₂ .before .before .before .before in
+    let c₀ = c₁ .before .before .before .before .before .before in
+    let first = c₁ .put-pair .ensures in
+    let lines = c₂ .put-darts .ensures in
+    let counts = c₃ .put-cells .ensures in
+    let pairs = c₄ .put-line .ensures in
+    let steps = c₅ .put-line2 .ensures in
+    let last = c .before .before .put-orientable .ensures in
+    let w = wrote-then (first .0) (wrote-then (lines .0) (wrote-then (counts .0) (wrote-then (pairs .0) (wrote-then (steps .0) (last .0))))) in (
+      wrote-same w (rw (c₄ .before .wide .ensures, c₅ .before .wide2 .ensures) refl),
+      omega (arith, first .1, lines .1, counts .1, pairs .1, steps .1, last .1, c₀ .pre .0 .darts .1),
     )
 
 pub put-map-spec : {M : Type 1} → statement M
@@ -86,5 +104,6 @@ put-map-spec =
     slice-aggregate-put-line-2
     wide-requires-2
     put-line-requires-2
+    put-orientable-requires
     same-length
     returns)

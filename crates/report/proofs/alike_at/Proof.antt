@@ -1,38 +1,54 @@
--- `report::alike_at` meets its contract: the search has come to d, and the link of every dart before it leads to the other class. Assumes nothing.
-use Prim.Native.Nat.{_+_, _*_, _-_}
+-- `report::alike_at` meets its contract: after d turns the links within a class are counted among those of the first d darts. Assumes nothing.
+use Prim.Native.Nat.{ℕ, _+_, _*_, _-_, _≤_}
+use mathlib.Core.Path.{_≡_, ap, sym, _∙_}
+use mathlib.Core.Logic.{⊎-elim}
 use native.Mathlib.Omega.{arith}
-use Rattle.rules.proofs.Lists.{Sought, sought-start, sought-next, sought-here, sought-end}
+use lib.ListN.{getD}
+use Rattle.rules.specs.Lists.{countBelow}
+use Rattle.tables.proofs.Laws.{place-within}
+use Rattle.counts.proofs.Counts.{count-none}
 use Rattle.report.specs.Tests.{alike}
-use Rattle.report.proofs.Classes.{alike-yes, alike-no}
+use Rattle.report.proofs.Classes.{entry-below, alike-yes, alike-no}
 use Rattle.report.proofs.alike_at.Statement.{statement}
 use Rattle.report.proofs.alike_at.Tie as tie
 
 abbrev Inv-loop : tie.InvT-loop
-Inv-loop tables work dim darts rank d₀ d = Sought (λ d. alike dim darts tables work (rank * darts + d)) darts d
+Inv-loop tables work dim darts rank alike₀ d₀ found d =
+    (d ≤ darts) × (found ≤ d) × (found ≡ countBelow d (λ d. alike dim darts tables work (rank * darts + d)))
 
 abbrev μ-loop : tie.MeasureT-loop
-μ-loop tables work dim darts rank d₀ d = darts - d
+μ-loop tables work dim darts rank alike₀ d₀ found d = darts - d
 
--- the entry, seen from the loop; the turn's start, seen from after the link was read
-abbrev entry : tie.At-loop Inv-loop μ-loop → tie.Start Inv-loop μ-loop
-entry c = c .before .before .before
-
-abbrev turn : tie.After-link-at Inv-loop μ-loop → tie.At-loop Inv-loop μ-loop
-turn c = c .before .before
+-- the entry, seen from after the place was computed
+abbrev entry : tie.After-place Inv-loop μ-loop → tie.Start Inv-loop μ-loop
+entry c = c .before .before .before .before .before
 
 loop-holds : tie.Need-loop-holds Inv-loop μ-loop
-loop-holds c = sought-start _ _
+loop-holds c = (omega arith, omega arith, sym (count-none _))
 
-cast-link-at : tie.Need-cast-link-at Inv-loop μ-loop
-cast-link-at c = omega arith
+place-requires : tie.Need-place-requires Inv-loop μ-loop
+place-requires c κs =
+    let p = c .before .before .before .before .pre in
+    (omega arith, omega arith, p .3, omega arith)
 
-link-at-requires : tie.Need-link-at-requires Inv-loop μ-loop
-link-at-requires c κs =
-    let p = entry (c .before) .pre in
-    (p .0, p .3, omega arith)
+mul-x : tie.Need-mul-x Inv-loop μ-loop
+mul-x c =
+    let p = entry c .pre in
+    omega (arith, c .place .ensures, place-within _ _ _ _ _ (p .0) (p .3) (c .before .loop-test .taken))
 
+shared-slice-read-x : tie.Need-shared-slice-read-x Inv-loop μ-loop
+shared-slice-read-x c =
+    let k = c .before in
+    let p = entry k .pre in
+    omega (arith, k .place .ensures, place-within _ _ _ _ _ (p .0) (p .3) (k .before .loop-test .taken))
+
+-- x, the entry at the place, is a dart
 cast-x : tie.Need-cast-x Inv-loop μ-loop
-cast-x c = omega arith
+cast-x c =
+    let k = c .before in
+    let p = entry k .pre in
+    let e = ap (λ (x : ℕ). getD (entry k .args .tables .now) x 0) (k .place .ensures) in
+    omega (arith, entry-below _ _ _ (entry k .args .work .now) _ _ _ (p .0) (p .3) (k .before .loop-test .taken) e (p .1))
 
 mul-if1 : tie.Need-mul-if1 Inv-loop μ-loop
 mul-if1 c = omega arith
@@ -42,20 +58,20 @@ shared-slice-read-if1 c = omega arith
 
 mul-if1-2 : tie.Need-mul-if1-2 Inv-loop μ-loop
 mul-if1-2 c =
-    let k = c .before in
-    let p = entry (turn k) .pre in
-    omega (arith, k .link-at .ensures, p .1 .inside _ _ (p .3) (k .before .loop-test .taken))
+    let k = c .before .before in
+    let p = entry k .pre in
+    let e = ap (λ (x : ℕ). getD (entry k .args .tables .now) x 0) (k .place .ensures) in
+    omega (arith, entry-below _ _ _ (entry k .args .work .now) _ _ _ (p .0) (p .3) (k .before .loop-test .taken) e (p .1))
 
 shared-slice-read-if1-2 : tie.Need-shared-slice-read-if1-2 Inv-loop μ-loop
 shared-slice-read-if1-2 c =
-    let k = c .before .before in
-    let p = entry (turn k) .pre in
-    omega (arith, k .link-at .ensures, p .1 .inside _ _ (p .3) (k .before .loop-test .taken))
-
-returns : tie.Need-returns Inv-loop μ-loop
-returns c =
     let k = c .before .before .before in
-    sought-here (turn k .loop .inv) (omega arith) (alike-yes _ _ _ _ _ _ _ (omega arith) (k .link-at .ensures) (c .if1 .taken))
+    let p = entry k .pre in
+    let e = ap (λ (x : ℕ). getD (entry k .args .tables .now) x 0) (k .place .ensures) in
+    omega (arith, entry-below _ _ _ (entry k .args .work .now) _ _ _ (p .0) (p .3) (k .before .loop-test .taken) e (p .1))
+
+add-alike : tie.Need-add-alike Inv-loop μ-loop
+add-alike c = omega arith
 
 add-d : tie.Need-add-d Inv-loop μ-loop
 add-d c = omega arith
@@ -65,14 +81,23 @@ loop-less c = omega arith
 
 loop-again : tie.Need-loop-again Inv-loop μ-loop
 loop-again c =
-    let k = c .before .before .before in
-    sought-next (turn k .loop .inv) (omega arith) (alike-no _ _ _ _ _ _ _ (omega arith) (k .link-at .ensures) (c .if1 .left))
+    let k = c .before .before .before .before in
+    let p = entry k .pre in
+    let l = k .before .before .loop in
+    let e = ap (λ (x : ℕ). getD (entry k .args .tables .now) x 0) (k .place .ensures) in
+    ⊎-elim
+    (λ w. (omega arith, omega arith, w .1 ∙ alike-yes _ _ _ _ _ (l .d) _ (p .0) (p .3) (omega arith) e (l .alike) (w .0 .taken) (l .inv .2)))
+    (λ w. (omega arith, omega arith, w .1 ∙ alike-no _ _ _ _ _ (l .d) _ (p .0) (p .3) (omega arith) e (l .alike) (w .0 .left) (l .inv .2)))
+    (c .if1 .came)
 
-returns-2 : tie.Need-returns-2 Inv-loop μ-loop
-returns-2 c = sought-end (c .before .loop .inv) (omega arith)
+returns : tie.Need-returns Inv-loop μ-loop
+returns c =
+    let l = c .before .loop in
+    let z : l .d ≡ c .before .before .before .before .args .darts = omega arith in
+    rw z at (l .inv .2)
 
 pub alike-at-spec : {M : Type 1} → statement M
 alike-at-spec =
     tie.close
-    (tie.spec Inv-loop μ-loop loop-holds cast-link-at link-at-requires cast-x mul-if1 shared-slice-read-if1 mul-if1-2 shared-slice-read-if1-2
-    returns add-d loop-less loop-again returns-2)
+    (tie.spec Inv-loop μ-loop loop-holds place-requires mul-x shared-slice-read-x cast-x mul-if1 shared-slice-read-if1 mul-if1-2 shared-slice-read-if1-2
+    add-alike add-d loop-less loop-again returns)

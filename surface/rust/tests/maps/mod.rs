@@ -87,6 +87,13 @@ fn post_grid(lent: &mut Lent, wide: usize, high: usize, wrapped: bool) -> Map {
     m
 }
 
+/// Two opposite sides of a square joined with a twist: open, and the darts have no two classes.
+fn moebius_band(lent: &mut Lent) -> Map {
+    let m = post_squares(lent, 1);
+    join_sides(lent, m, 0, 0, 1, 1);
+    m
+}
+
 /// No dart is free, yet the darts have no two classes: opposite sides are joined, one pair of them twisted.
 fn klein_bottle(lent: &mut Lent) -> Map {
     let m = post_grid(lent, 1, 1, true);
@@ -177,22 +184,24 @@ pub fn post_pairs(lent: &mut Lent, darts: usize) -> Map {
 pub type Sample = (&'static str, fn(&mut Lent) -> Map, [usize; 7], usize, bool);
 
 pub static SAMPLES: &[Sample] = &[
-    ("lone dart", |l| post_free(l, 6, 1), [1; 7], 7, false),
-    ("P2, two darts", |l| post_chain(l, 1, 2), [2, 1, 0, 0, 0, 0, 0], 2, false),
-    ("chain of five", |l| post_chain(l, 1, 5), [3, 3, 0, 0, 0, 0, 0], 2, false),
-    ("chain in six", |l| post_chain(l, 6, 6), [4, 3, 1, 1, 1, 1, 1], 32, false),
+    ("lone dart", |l| post_free(l, 6, 1), [1; 7], 7, true),
+    ("P2, two darts", |l| post_chain(l, 1, 2), [2, 1, 0, 0, 0, 0, 0], 2, true),
+    ("chain of five", |l| post_chain(l, 1, 5), [3, 3, 0, 0, 0, 0, 0], 2, true),
+    ("chain in six", |l| post_chain(l, 6, 6), [4, 3, 1, 1, 1, 1, 1], 32, true),
     ("loop", |l| post_ring(l, 1), [1, 1, 0, 0, 0, 0, 0], 0, true),
     ("P3, triangle", |l| post_ring(l, 3), [3, 3, 0, 0, 0, 0, 0], 0, true),
-    ("grid 3 by 2", |l| post_grid(l, 3, 2, false), [12, 17, 6, 0, 0, 0, 0], 20, false),
+    ("open square", |l| post_squares(l, 1), [4, 4, 1, 0, 0, 0, 0], 8, true),
+    ("Moebius band", moebius_band, [2, 3, 1, 0, 0, 0, 0], 4, false),
+    ("grid 3 by 2", |l| post_grid(l, 3, 2, false), [12, 17, 6, 0, 0, 0, 0], 20, true),
     ("torus 3 by 2", |l| post_grid(l, 3, 2, true), [6, 12, 6, 0, 0, 0, 0], 0, true),
     ("torus of one square", |l| post_grid(l, 1, 1, true), [1, 2, 1, 0, 0, 0, 0], 0, true),
     ("Klein bottle", klein_bottle, [1, 2, 1, 0, 0, 0, 0], 0, false),
-    ("cube", |l| post_box(l, 3, false), [8, 12, 6, 1, 0, 0, 0], 48, false),
+    ("cube", |l| post_box(l, 3, false), [8, 12, 6, 1, 0, 0, 0], 48, true),
     ("wrapped cube", |l| post_box(l, 3, true), [1, 3, 3, 1, 0, 0, 0], 0, true),
     ("wrapped box in four", |l| post_box(l, 4, true), [1, 4, 6, 4, 1, 0, 0], 0, true),
-    ("box in five", |l| post_box(l, 5, false), [32, 80, 80, 40, 10, 1, 0], 3840, false),
+    ("box in five", |l| post_box(l, 5, false), [32, 80, 80, 40, 10, 1, 0], 3840, true),
     ("wrapped box in five", |l| post_box(l, 5, true), [1, 5, 10, 10, 5, 1, 0], 0, true),
     ("bits in six", |l| post_bits(l, 6), [2; 7], 0, true),
-    ("paths in six", |l| post_paths(l, [4, 3, 5, 2]), [3, 2, 2, 2, 3, 3, 2], 188, false),
+    ("paths in six", |l| post_paths(l, [4, 3, 5, 2]), [3, 2, 2, 2, 3, 3, 2], 188, true),
     ("most pairs", |l| post_pairs(l, MAX_DARTS), [1, 1, 1, 1, 1, 1025, 1024], 0, true),
 ];
