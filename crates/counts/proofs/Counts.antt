@@ -24,14 +24,14 @@ use Rattle.flood.proofs.Floods.{linked-reached}
 use Rattle.flood.proofs.Orbits.{reached-marked, flooded-on, flooded-start, flooded-cases, flooded-explored}
 use Rattle.counts.specs.Tests.{isFree}
 
--- one number more below the bound
-pub count-yes : (f : ℕ → Bool) (k : ℕ) → f k ≡ true → countBelow (k + 1) f ≡ countBelow k f + 1
+-- c numbers below k pass a test: one number more
+pub count-yes : (f : ℕ → Bool) (k c : ℕ) → f k ≡ true → c ≡ countBelow k f → c + 1 ≡ countBelow (k + 1) f
 unfolding countBelow
-count-yes f k q = let e : k + 1 ≡ suc k = omega arith in rw (e, q) (omega arith)
+count-yes f k c q h = let e : k + 1 ≡ suc k = omega arith in rw (e, q) (omega arith)
 
-pub count-no : (f : ℕ → Bool) (k : ℕ) → f k ≡ false → countBelow (k + 1) f ≡ countBelow k f
+pub count-no : (f : ℕ → Bool) (k c : ℕ) → f k ≡ false → c ≡ countBelow k f → c ≡ countBelow (k + 1) f
 unfolding countBelow
-count-no f k q = let e : k + 1 ≡ suc k = omega arith in rw (e, q) (omega arith)
+count-no f k c q h = let e : k + 1 ≡ suc k = omega arith in rw (e, q) (omega arith)
 
 pub count-none : (f : ℕ → Bool) → countBelow 0 f ≡ 0
 unfolding countBelow
@@ -61,10 +61,10 @@ module _ (N n : ℕ) (t : List ℕ) (i d x : ℕ) (L : Limits N n t) (hi : i ≤
   free-test = rw (rank-nth n i d hd, dart-nth n i d hd, ← entry-link N n t i d L hi hd, e)
 
   pub free-yes : (free : ℕ) → x ≡ d → free ≡ countBelow d (λ d. isFree N n t (i * n + d)) → free + 1 ≡ countBelow (d + 1) (λ d. isFree N n t (i * n + d))
-  free-yes free h c = ap (λ (y : ℕ). y + 1) c ∙ sym (count-yes (λ d. isFree N n t (i * n + d)) d (free-test ∙ eq-eqb x d h))
+  free-yes free h = count-yes (λ d. isFree N n t (i * n + d)) d free (free-test ∙ eq-eqb x d h)
 
   pub free-no : (free : ℕ) → x ≢ d → free ≡ countBelow d (λ d. isFree N n t (i * n + d)) → free ≡ countBelow (d + 1) (λ d. isFree N n t (i * n + d))
-  free-no free h c = c ∙ sym (count-no (λ d. isFree N n t (i * n + d)) d (free-test ∙ ne-eqb x d h))
+  free-no free h = count-no (λ d. isFree N n t (i * n + d)) d free (free-test ∙ ne-eqb x d h)
 
 -- every rank
 pub free-end : (N n : ℕ) (t : List ℕ) (i free : ℕ) → i ≡ N + 1 → free ≡ countBelow (i * n) (isFree N n t) → free ≡ freePairs N n t
@@ -126,7 +126,7 @@ module _ {N n : ℕ} {t : List ℕ} (v : Valid N n t) {i d tail found : ℕ} {w 
     explored = R .explored;
     traced = λ x h y. let (e, he, r) = R .traced x h y in (e, omega arith, r);
     passed = passed-next w (R .passed) m;
-    count = R .count ∙ sym (count-no (leads N n t i) d (leads-no m));
+    count = count-no (leads N n t i) d found (leads-no m) (R .count);
     few = omega (arith, R .few);
   }
 
@@ -136,7 +136,7 @@ module _ {N n : ℕ} {t : List ℕ} (v : Valid N n t) {i d tail found : ℕ} {w 
     explored = flooded-explored (R .queue) hd (omega arith) F (R .explored);
     traced = λ x h y. from x h (flooded-cases (R .queue) hd (omega arith) F x h y);
     passed = passed-next w' (λ x h. extended-marked L (omega arith) (R .passed x h)) (flooded-start (R .queue) hd (omega arith) F);
-    count = ap (λ (x : ℕ). x + 1) (R .count) ∙ sym (count-yes (leads N n t i) d (leads-yes u));
+    count = count-yes (leads N n t i) d found (leads-yes u) (R .count);
     few = omega (arith, R .few);
   }
     where

@@ -65,10 +65,10 @@ module _ (N n : ℕ) (t w : List ℕ) (i d x : ℕ) (L : Limits N n t) (hi : i �
   alike-test = rw (rank-nth n i d hd, dart-nth n i d hd, entry-link-at)
 
   pub alike-yes : (c : ℕ) → getD w d 0 ≡ getD w x 0 → c ≡ countBelow d ranked → c + 1 ≡ countBelow (d + 1) ranked
-  alike-yes c h q = ap (λ (y : ℕ). y + 1) q ∙ sym (count-yes ranked d (alike-test ∙ eq-eqb (getD w d 0) (getD w x 0) h))
+  alike-yes c h = count-yes ranked d c (alike-test ∙ eq-eqb (getD w d 0) (getD w x 0) h)
 
   pub alike-no : (c : ℕ) → getD w d 0 ≢ getD w x 0 → c ≡ countBelow d ranked → c ≡ countBelow (d + 1) ranked
-  alike-no c h q = q ∙ sym (count-no ranked d (alike-test ∙ ne-eqb (getD w d 0) (getD w x 0) h))
+  alike-no c h = count-no ranked d c (alike-test ∙ ne-eqb (getD w d 0) (getD w x 0) h)
 
 -- any classes that do agree with the numbers of links from a dart of class 0
 linked-class : {keep : ℕ → Bool} {N n : ℕ} {t : List ℕ} {s d m : ℕ} (v : Valid N n t) (O : Orientable N n t) → s < n

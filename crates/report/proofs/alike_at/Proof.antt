@@ -1,5 +1,5 @@
 -- `report::alike_at` meets its contract: after d turns the links within a class are counted among those of the first d darts. Assumes nothing.
-use Prim.Native.Nat.{ℕ, _+_, _*_, _-_, _≤_}
+use Prim.Native.Nat.{ℕ, _+_, _*_, _-_, _≤_, _<_}
 use mathlib.Core.Path.{_≡_, ap, sym, _∙_}
 use mathlib.Core.Logic.{⊎-elim}
 use native.Mathlib.Omega.{arith}
@@ -23,6 +23,13 @@ abbrev μ-loop : tie.MeasureT-loop
 abbrev entry : tie.After-place Inv-loop μ-loop → tie.Start Inv-loop μ-loop
 entry c = c .before .before .before .before .before
 
+-- the entry at the place is a dart
+read-below : (k : tie.After-place Inv-loop μ-loop) → let a = entry k .args in getD (a .tables .now) (k .place .result) 0 < a .darts
+read-below k =
+    let p = entry k .pre in
+    let e = ap (λ (x : ℕ). getD (entry k .args .tables .now) x 0) (k .place .ensures) in
+    entry-below _ _ _ (entry k .args .work .now) _ _ _ (p .0) (p .3) (k .before .loop-test .taken) e (p .1)
+
 loop-holds : tie.Need-loop-holds Inv-loop μ-loop
 loop-holds c = (omega arith, omega arith, sym (count-none _))
 
@@ -42,13 +49,8 @@ shared-slice-read-x c =
     let p = entry k .pre in
     omega (arith, k .place .ensures, place-within _ _ _ _ _ (p .0) (p .3) (k .before .loop-test .taken))
 
--- x, the entry at the place, is a dart
 cast-x : tie.Need-cast-x Inv-loop μ-loop
-cast-x c =
-    let k = c .before in
-    let p = entry k .pre in
-    let e = ap (λ (x : ℕ). getD (entry k .args .tables .now) x 0) (k .place .ensures) in
-    omega (arith, entry-below _ _ _ (entry k .args .work .now) _ _ _ (p .0) (p .3) (k .before .loop-test .taken) e (p .1))
+cast-x c = omega (arith, read-below (c .before))
 
 mul-if1 : tie.Need-mul-if1 Inv-loop μ-loop
 mul-if1 c = omega arith
@@ -57,18 +59,10 @@ shared-slice-read-if1 : tie.Need-shared-slice-read-if1 Inv-loop μ-loop
 shared-slice-read-if1 c = omega arith
 
 mul-if1-2 : tie.Need-mul-if1-2 Inv-loop μ-loop
-mul-if1-2 c =
-    let k = c .before .before in
-    let p = entry k .pre in
-    let e = ap (λ (x : ℕ). getD (entry k .args .tables .now) x 0) (k .place .ensures) in
-    omega (arith, entry-below _ _ _ (entry k .args .work .now) _ _ _ (p .0) (p .3) (k .before .loop-test .taken) e (p .1))
+mul-if1-2 c = omega (arith, read-below (c .before .before))
 
 shared-slice-read-if1-2 : tie.Need-shared-slice-read-if1-2 Inv-loop μ-loop
-shared-slice-read-if1-2 c =
-    let k = c .before .before .before in
-    let p = entry k .pre in
-    let e = ap (λ (x : ℕ). getD (entry k .args .tables .now) x 0) (k .place .ensures) in
-    omega (arith, entry-below _ _ _ (entry k .args .work .now) _ _ _ (p .0) (p .3) (k .before .loop-test .taken) e (p .1))
+shared-slice-read-if1-2 c = omega (arith, read-below (c .before .before .before))
 
 add-alike : tie.Need-add-alike Inv-loop μ-loop
 add-alike c = omega arith
