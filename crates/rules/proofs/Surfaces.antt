@@ -3,7 +3,7 @@
 use Prim.Native.Nat.{ℕ, zero, suc, _+_, _*_, _/_, _%_, _≤_, _<_}
 use mathlib.Core.Path.{_≡_, refl, sym, _∙_}
 use mathlib.Core.Logic.{_≢_}
-use mathlib.Core.Bool.{Bool, true, false, not, _&&_, _||_, cond}
+use mathlib.Core.Bool.{Bool, true, false, _&&_}
 use mathlib.Core.List.{List, [], _∷_}
 use native.Mathlib.Omega.{arith}
 use native.Mathlib.Decide.{ℕ-discrete}
@@ -15,7 +15,7 @@ use Rattle.rules.specs.Lists.{allBelow}
 use Rattle.rules.specs.Map.{size, place, link}
 use Rattle.rules.specs.Check.{Verdict, verdict}
 use Rattle.rules.specs.Report.{freePairs, differ, crosses, apart, someClasses, orientable, cellCounts, reportAnswerOf, reportAnswer}
-use Rattle.rules.proofs.Lists.{not-both, all-below, below-same}
+use Rattle.rules.proofs.Lists.{and-right, not-both, all-below, below-same}
 use Rattle.rules.proofs.Places.{nth-rank, nth-dart, nth-below, rank-nth, dart-nth}
 use Rattle.rules.proofs.Cells.{Free, free-are, some-classes}
 use Rattle.rules.proofs.Check.{fine-passes}
@@ -99,12 +99,7 @@ module _ (N n : ℕ) (t : List ℕ) (h1 : 1 ≤ n) where
 
   -- a map that was orientable stays so
   pub stays-orientable : formerOrientable N n t ≡ true → orientable N n t ≡ true
-  stays-orientable e = go (eqb (freePairs N n t) 0) (orientable N n t) (sym former-exactly ∙ e)
-    where
-      go : (a b : Bool) → (a && b) ≡ true → b ≡ true
-      go true b z = z
-      go false true z = refl
-      go false false z = z
+  stays-orientable e = and-right (eqb (freePairs N n t) 0) (orientable N n t) (sym former-exactly ∙ e)
 
 -- the report as document 01 gives it: with a free pair it says not orientable
 unfoldable pub formerly : ReportAnswer → ReportAnswer
