@@ -1,12 +1,12 @@
 -- Laws of the report's counts, one turn of a loop at a time: a dart leads its cell if no flood before it came there.
 -- Rests on the flood's Orbits and the rules' Orbits.
-use Prim.Native.Nat.{ℕ, zero, suc, _+_, _*_, _≤_, _<_}
+use Prim.Native.Nat.{ℕ, zero, suc, _+_, _*_, _-_, _≤_, _<_}
 use mathlib.Core.Path.{_≡_, refl, ap, sym, _∙_}
 use mathlib.Core.Logic.{_≢_, _⊎_, inl, inr}
 use mathlib.Core.Bool.{Bool, true, false, not, cond}
 use mathlib.Core.List.{List}
 use native.Mathlib.Omega.{arith}
-use native.Mathlib.Decide.{ℕ-discrete, decLe}
+use native.Mathlib.Decide.{ℕ-discrete, decLe, decLt}
 use lib.ListN.{length, getD, set, replicate, length-set}
 use lib.Seq.{ext-getD, getD-set-same, getD-set-other}
 use lib.Dec.{eqb, leb}
@@ -19,7 +19,7 @@ use Rattle.rules.proofs.Places.{rank-nth, dart-nth}
 use Rattle.tables.proofs.Laws.{entry-link}
 use Rattle.rules.proofs.Orbits.{valid-closed, reached-sym, reaches-reached, reached-reaches}
 use Rattle.flood.specs.Flood.{Marked, Queue, Extended, Linked, Explored, Flooded}
-use Rattle.flood.proofs.Queues.{extended-marked, queue-blanked, none-blanked}
+use Rattle.flood.proofs.Queues.{full-marked, marked-full, extended-marked, queue-blanked, none-blanked}
 use Rattle.flood.proofs.Floods.{linked-reached}
 use Rattle.flood.proofs.Orbits.{reached-marked, flooded-on, flooded-start, flooded-cases, flooded-explored}
 use Rattle.counts.specs.Tests.{isFree}
@@ -147,9 +147,24 @@ module _ {N n : ℕ} {t : List ℕ} (v : Valid N n t) {i d tail found : ℕ} {w 
       from x h (inl m) = let (e, he, r) = R .traced x h m in (e, omega arith, r)
       from x h (inr r) = (d, omega arith, linked-reached r)
 
-pub swept-end : {N n : ℕ} {t : List ℕ} {i d tail found : ℕ} {w : List ℕ} → Swept N n t i d tail found w → d ≡ n → found ≡ cells N n t i
+-- a dart is without mark: the floods have not come to the last
+pub swept-more : {N n : ℕ} {t : List ℕ} {i d tail found : ℕ} {w : List ℕ} → Swept N n t i d tail found w → tail < n → d < n
+swept-more {n = n} {d = d} R h = go (decLt d n)
+  where
+    go : Dec (d < n) → d < n
+    go (yes l) = l
+    go (no l) = absurd (omega (arith, marked-full (R .queue) (λ x k. R .passed x (omega arith))))
+
+-- every dart is marked: none that is left leads its cell
+swept-rest : {N n : ℕ} {t : List ℕ} → Valid N n t → {i tail found : ℕ} {w : List ℕ} (k d : ℕ) → d + k ≡ n → ((x : ℕ) → x < n → Marked w x)
+    → Swept N n t i d tail found w → found ≡ cells N n t i
 unfolding cells
-swept-end {N} {n} {t} {i} R e = R .count ∙ ap (λ (x : ℕ). countBelow x (leads N n t i)) e
+swept-rest {N} {n} {t} v {i} zero d e m R = R .count ∙ ap (λ (x : ℕ). countBelow x (leads N n t i)) (omega arith)
+swept-rest v (suc k) d e m R = swept-rest v k (d + 1) (omega arith) m (swept-old v R (omega arith) (m d (omega arith)))
+
+pub swept-end : {N n : ℕ} {t : List ℕ} {i d tail found : ℕ} {w : List ℕ} → Valid N n t → Swept N n t i d tail found w → d ≤ n → n ≤ tail
+    → found ≡ cells N n t i
+swept-end {n = n} {d = d} v R l h = swept-rest v (n - d) d (omega arith) (full-marked (R .queue) h) R
 
 -- the counts of the ranks below i are there, and the others are 0
 pub record Tallied (N n : ℕ) (t : List ℕ) (i : ℕ) (counts : List ℕ) : Type 0 where

@@ -8,7 +8,7 @@ ghost use Rattle.rules.specs.Map.{Limits, Valid};
 ghost use Rattle.rules.specs.Report.{cellCounts, freePairs};
 ghost use Rattle.counts.specs.Tests.{isFree};
 
-// The number of cells of a rank: a flood from each dart that none before it reached.
+// The number of cells of a rank: a flood from each dart that none before it reached, until the queue holds all darts.
 pub fn cells(tables: &[u16], work: &mut [u16], dim: usize, darts: usize, skip: usize) -> u32
     requires { ⌜ Limits dim darts (now tables) × Valid dim darts (now tables) × (2 * darts ≤ length (now work))
         × (skip ≤ dim) ⌝ }
@@ -20,7 +20,7 @@ pub fn cells(tables: &[u16], work: &mut [u16], dim: usize, darts: usize, skip: u
     let mut found: u32 = 0;
     let mut tail = 0;
     let mut d = 0;
-    while d < darts {
+    while tail < darts {
         if work[d] == Session::NO_LINK {
             tail = flood::flood(tables, work, dim, darts, ranks, tail, d as u16, 0);
             found += 1;

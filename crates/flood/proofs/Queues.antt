@@ -43,6 +43,23 @@ tail-below {n} {tail} {d} {w} Q hd u =
     alone i j h k (no e) (yes e') z = absurd (fresh-new Q u i (omega arith) (sym (at-old i e) ∙ (z ∙ at-last j e')))
     alone i j h k (no e) (no e') z = Q .once i j (omega arith) (omega arith) (sym (at-old i e) ∙ (z ∙ at-old j e'))
 
+-- every dart is marked exactly if the queue holds n of them
+pub full-marked : {n tail : ℕ} {w : List ℕ} → Queue n tail w → n ≤ tail → (d : ℕ) → d < n → Marked w d
+full-marked Q h d hd u = omega (arith, tail-below Q hd u)
+
+pub marked-full : {n tail : ℕ} {w : List ℕ} → Queue n tail w → ((d : ℕ) → d < n → Marked w d) → n ≤ tail
+marked-full {n} {tail} {w} Q m =
+    pigeonhole n tail (λ d. at d (decLt d n)) (λ d h. held d h (decLt d n) .0)
+    (λ d e h k z. sym (held d h (decLt d n) .1) ∙ (ap (queued n w) z ∙ held e k (decLt e n) .1))
+  where
+    at : (d : ℕ) → Dec (d < n) → ℕ
+    at d (yes h) = Q .entered d h (m d h) .0
+    at d (no h) = 0
+
+    held : (d : ℕ) → d < n → (s : Dec (d < n)) → (at d s < tail) × (queued n w (at d s) ≡ d)
+    held d h (yes k) = let r = Q .entered d k (m d k) in (r .1, r .2)
+    held d h (no k) = absurd (k h)
+
 -- the work room where dart d has got class m and entered the queue
 abbrev placed : ℕ → ℕ → ℕ → ℕ → List ℕ → List ℕ
 placed n tail d m w = set (set w d m) (n + tail) d

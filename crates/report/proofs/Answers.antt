@@ -6,22 +6,24 @@ use mathlib.Core.Logic.{_≢_}
 use mathlib.Core.Bool.{Bool, true, false}
 use mathlib.Core.List.{List}
 use native.Mathlib.Omega.{arith}
-use native.Mathlib.Decide.{ℕ-discrete}
+use native.Mathlib.Decide.{ℕ-discrete, decLt}
 use lib.ListN.{length, getD, drop}
 use lib.Dec.{eqb}
-use borrow.Author.Tests.{eq-eqb, ne-eqb, lt-ltb, le-ltb}
+use borrow.Author.Tests.{eqb-true, eq-eqb, ne-eqb, lt-ltb, le-ltb}
 use Rattle.rules.specs.declared.CheckAnswer.{CheckAnswer}
 use Rattle.rules.specs.declared.ReportAnswer.{ReportAnswer}
 use Rattle.rules.specs.Lists.{first}
 use Rattle.rules.specs.Map.{mark, blank, allRanks, reaches, Valid, Limits}
 use Rattle.rules.specs.Check.{Verdict, refuseIf, unreached, verdict, workAfter, checkAnswerOf, checkAnswer, checkWork}
 use Rattle.rules.specs.Report.{cellCounts, freePairs, orientable, reportAnswerOf, reportAnswer, reportWorkAfter, reportWork}
-use Rattle.rules.proofs.Lists.{not-both, first-before, getD-any, first-same}
+use Rattle.rules.proofs.Lists.{not-both, first-passes, first-before, getD-any, first-same}
 use Rattle.rules.proofs.Orbits.{Closed, valid-closed, reaches-reached, reached-reaches}
 use Rattle.rules.proofs.Check.{Case, Passes, refused-case, refused-some, fine-passes}
 use Rattle.checker.specs.Parts.{numberless, misfitOf, misbuiltOf}
 use Rattle.checker.proofs.Verdicts.{numbered-verdict, check-sizes, check-limits, check-tables, check-valid, tabled-on}
 use Rattle.report.specs.Answer.{refusalOf, countedOf}
+use Rattle.flood.specs.Flood.{Queue}
+use Rattle.flood.proofs.Queues.{full-marked, marked-full}
 use Rattle.flood.proofs.Floods.{linked-reached}
 use Rattle.report.specs.Spans.{Spanned, AllMarked}
 
@@ -76,19 +78,42 @@ module _ (N n : ℕ) (t w : List ℕ) {k : ℕ} (ek : k ≡ misfitOf N n 0 (leng
         left = tabled-on N n 0 t w k ek z a ea y;
       }
 
--- u is the work room where all that is reached is marked, d the first dart that is not
-module _ {N n d top : ℕ} {t w u : List ℕ} (T : Tabled N n t w) (S : Spanned N n t top u) (same : length u ≡ length w) (ed : d ≡ first (numberless u) n) where
+-- u is the work room where all that is reached is marked; the queue holds it
+module _ {N n tail top : ℕ} {t w u : List ℕ} (T : Tabled N n t w) (S : Spanned N n t top u) (Q : Queue n tail u) (same : length u ≡ length w) where
   in-room : (i : ℕ) → i < n → getD u i mark ≡ getD u i 0
   in-room i h = getD-any u i mark 0 (omega (arith, T .room))
 
-  pub report-marked : n ≤ d → AllMarked n u
-  report-marked h i l e =
-      let q = first-before (numberless u) n i (omega arith) in
-      not-both (numberless u i) (eq-eqb (getD u i mark) mark (in-room i l ∙ e)) q
+  -- the first dart that is not marked
+  abbrev least : ℕ
+  least = first (numberless u) n
 
-  found : d ≡ first (unreached N n t 0) n
+  -- the queue holds fewer than n darts: there is one
+  least-below : tail < n → least < n
+  least-below h = go (decLt least n)
+    where
+      marked : n ≤ least → AllMarked n u
+      marked k i l e =
+          let q = first-before (numberless u) n i (omega arith) in
+          not-both (numberless u i) (eq-eqb (getD u i mark) mark (in-room i l ∙ e)) q
+
+      go : Dec (least < n) → least < n
+      go (yes l) = l
+      go (no l) = absurd (omega (arith, marked-full Q (marked (omega arith))))
+
+  pub unreached-below : {d : ℕ} → d ≡ least → tail < n → d < n
+  unreached-below e h = rw e (least-below h)
+
+  -- it holds n: there is none
+  least-past : n ≤ tail → n ≤ least
+  least-past h = go (decLt least n)
+    where
+      go : Dec (least < n) → n ≤ least
+      go (no l) = omega arith
+      go (yes l) = absurd (full-marked Q h least l (sym (in-room least l) ∙ eqb-true (getD u least mark) mark (first-passes (numberless u) n l)))
+
+  found : least ≡ first (unreached N n t 0) n
   unfolding unreached
-  found = ed ∙ first-same (numberless u) (unreached N n t 0) n (λ i l. rw (in-room i l) (each i l))
+  found = first-same (numberless u) (unreached N n t 0) n (λ i l. rw (in-room i l) (each i l))
     where
       C : Closed N n t
       C = valid-closed (T .valid)
@@ -103,16 +128,16 @@ module _ {N n d top : ℕ} {t w u : List ℕ} (T : Tabled N n t w) (S : Spanned 
 
   -- u' is the work room at the end
   module _ {u' : List ℕ} (eu : u' ≡ blank (2 * n) u) (past : drop (2 * n) u ≡ drop (2 * n) w) where
-    pub report-unreached : {r : ReportAnswer} → r ≡ refusalOf 9 d → d < n → (r ≡ reportAnswer N n t w) × (u' ≡ reportWork N n t w)
+    pub report-unreached : {r : ReportAnswer} {d : ℕ} → r ≡ refusalOf 9 d → d ≡ least → tail < n → (r ≡ reportAnswer N n t w) × (u' ≡ reportWork N n t w)
     unfolding refuseIf reportAnswer reportAnswerOf reportWork reportWorkAfter refusalOf
-    report-unreached e h =
-        let v : verdict N n 0 t (length w) ≡ Verdict.refused 9 d = T .left ∙ rw (← found, lt-ltb d n h) in
-        rw v ((e, blank-over (2 * n) w u u' eu past))
+    report-unreached e ed h =
+        let v : verdict N n 0 t (length w) ≡ Verdict.refused 9 least = T .left ∙ rw (← found, lt-ltb least n (least-below h)) in
+        rw v ((e ∙ ap (refusalOf 9) ed, blank-over (2 * n) w u u' eu past))
 
-    pub report-counted : {r : ReportAnswer} → r ≡ countedOf N n t → n ≤ d → (r ≡ reportAnswer N n t w) × (u' ≡ reportWork N n t w)
+    pub report-counted : {r : ReportAnswer} → r ≡ countedOf N n t → n ≤ tail → (r ≡ reportAnswer N n t w) × (u' ≡ reportWork N n t w)
     unfolding refuseIf reportAnswer reportAnswerOf reportWork reportWorkAfter countedOf
     report-counted e h =
-        let v : verdict N n 0 t (length w) ≡ Verdict.fine = T .left ∙ rw (← found, le-ltb d n h) in
+        let v : verdict N n 0 t (length w) ≡ Verdict.fine = T .left ∙ rw (← found, le-ltb least n (least-past h)) in
         rw v ((e, blank-over (2 * n) w u u' eu past))
 
 -- a report with number 0 is of a map that passes every test

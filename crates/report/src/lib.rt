@@ -7,6 +7,7 @@ ghost use lib.ListN.{length, drop};
 ghost use Rattle.rules.specs.Lists.{countBelow};
 ghost use Rattle.rules.specs.Map.{Limits, Valid, size, blank};
 ghost use Rattle.rules.specs.Report.{reportAnswer, reportWork};
+ghost use Rattle.flood.specs.Flood.{Queue};
 ghost use Rattle.report.specs.Answer.{refusalOf, countedOf};
 ghost use Rattle.report.specs.Spans.{Spun, Spanned, AllMarked};
 ghost use Rattle.report.specs.Tests.{alike};
@@ -81,10 +82,11 @@ pub fn span_step(
 }
 
 // All that is reached from dart 0 is marked, one N-cell after another; a class says by how many links. The answer is
-// the number of those N-cells.
-pub fn span(tables: &[u16], work: &mut [u16], dim: usize, darts: usize) -> u32
+// how many darts that is and the number of those N-cells.
+pub fn span(tables: &[u16], work: &mut [u16], dim: usize, darts: usize) -> Spanning
     requires { ⌜ Limits dim darts (now tables) × Valid dim darts (now tables) × (2 * darts ≤ length (now work)) ⌝ }
-    ensures { λ r. ⌜ Spanned dim darts (now (tables .entry)) r (now (work .exit))
+    ensures { λ r. ⌜ Spanned dim darts (now (tables .entry)) (r .cells) (now (work .exit))
+        × Queue darts (r .tail) (now (work .exit))
         × (drop (2 * darts) (now (work .exit)) ≡ drop (2 * darts) (now (work .entry))) ⌝ }
 {
     tables::blank(work, darts);
@@ -96,7 +98,7 @@ pub fn span(tables: &[u16], work: &mut [u16], dim: usize, darts: usize) -> u32
         s = span_step(tables, work, dim, darts, head, s);
         head += 1;
     }
-    s.cells
+    s
 }
 
 // A refusal: all counts are 0.
@@ -148,11 +150,11 @@ pub fn report(dim: usize, darts: usize, tables: &[u16], work: &mut [u16]) -> Rep
     if next.number != 0 {
         return refusal(next.number, next.place);
     }
-    let top = span(tables, work, dim, darts);
-    let d = checker::first_unnumbered(work, darts);
-    if d < darts {
+    let s = span(tables, work, dim, darts);
+    if s.tail < darts {
+        let d = checker::first_unnumbered(work, darts);
         tables::blank(work, 2 * darts);
         return refusal(9, d as u32);
     }
-    counted(tables, work, dim, darts, top)
+    counted(tables, work, dim, darts, s.cells)
 }

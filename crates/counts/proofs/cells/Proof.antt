@@ -1,13 +1,13 @@
 -- `counts::cells` meets its contract: each dart below d is marked, and the darts from which floods were started are those that lead
 -- their cells. Assumes nothing.
-use Prim.Native.Nat.{_*_, _-_, _≤_}
+use Prim.Native.Nat.{_*_, _-_, _≤_, _<_}
 use mathlib.Core.Path.{_≡_, refl, _∙_}
 use mathlib.Core.Logic.{⊎-elim}
 use native.Mathlib.Omega.{arith}
 use lib.ListN.{length, drop}
 use Rattle.flood.proofs.Queues.{past-blanked}
 use Rattle.flood.proofs.Orbits.{orbit-inside, flooded-but, flooded-on}
-use Rattle.counts.proofs.Counts.{Swept, swept-start, swept-old, swept-new, swept-end}
+use Rattle.counts.proofs.Counts.{Swept, swept-start, swept-more, swept-old, swept-new, swept-end}
 use Rattle.counts.proofs.cells.Statement.{statement}
 use Rattle.counts.proofs.cells.Tie as tie
 
@@ -28,6 +28,10 @@ entry c = blanked c .before .before .before .before
 -- the turn's test, seen from after the flood
 abbrev test : tie.After-slice-known4 Inv-loop μ-loop → tie.In-loop Inv-loop μ-loop
 test c = c .before .before .before .before .before .before
+
+-- a turn is made only where a dart has no mark, so d is a dart
+dart-below : (c : tie.In-loop Inv-loop μ-loop) → c .before .loop .d < entry (c .before .before) .args .darts
+dart-below c = swept-more (c .before .loop .inv .2) (c .loop-test .taken)
 
 blank-requires : tie.Need-blank-requires Inv-loop μ-loop
 blank-requires c κs = omega arith
@@ -51,7 +55,8 @@ flood-requires : tie.Need-flood-requires Inv-loop μ-loop
 flood-requires c κs =
     let l = c .before .before .before .before in
     let p = entry (l .before) .pre in
-    (p .0, l .loop .inv .2 .queue, rw (l .before .all-but .ensures) (omega arith), orbit-inside (p .1) (omega arith), omega arith)
+    let hd = dart-below (c .before .before .before) in
+    (p .0, l .loop .inv .2 .queue, rw (l .before .all-but .ensures) (omega arith), orbit-inside (p .1) (omega (arith, hd)), omega arith)
 
 add-found : tie.Need-add-found Inv-loop μ-loop
 add-found c = let R = test c .before .loop .inv .2 in omega arith
@@ -60,7 +65,7 @@ add-d : tie.Need-add-d Inv-loop μ-loop
 add-d c = omega arith
 
 loop-less : tie.Need-loop-less Inv-loop μ-loop
-loop-less c = omega arith
+loop-less c = omega (arith, dart-below (c .before .before))
 
 loop-again : tie.Need-loop-again Inv-loop μ-loop
 loop-again c =
@@ -68,12 +73,13 @@ loop-again c =
     let (same, below, R, past) = l .loop .inv in
     let v = entry (l .before) .pre .1 in
     let skip = entry (l .before) .args .skip in
+    let hd = dart-below (c .before .before) in
     ⊎-elim
     (λ w.
     let F = flooded-but skip (l .before .all-but .ensures) (w .2 .ensures) in
-    let kept = flooded-on (R .queue) (omega arith) (omega arith) F .past ∙ past in
-    rw (w .5, w .6, w .7) (w .2 .kept .1 .0 ∙ same, omega arith, swept-new v R (omega arith) (w .0 .taken) F, kept))
-    (λ w. rw (w .1, w .2, w .3) (same, omega arith, swept-old v R (omega arith) (w .0 .left), past))
+    let kept = flooded-on (R .queue) (omega (arith, hd)) (omega arith) F .past ∙ past in
+    rw (w .5, w .6, w .7) (w .2 .kept .1 .0 ∙ same, omega (arith, hd), swept-new v R hd (w .0 .taken) F, kept))
+    (λ w. rw (w .1, w .2, w .3) (same, omega (arith, hd), swept-old v R hd (w .0 .left), past))
     (c .if1 .came)
 
 same-length : tie.Need-same-length Inv-loop μ-loop
@@ -82,7 +88,9 @@ same-length c = c .before .loop .inv .0 ∙ blanked (c .before .before) .blank .
 returns : tie.Need-returns Inv-loop μ-loop
 returns c =
     let l = c .before .loop in
-    (swept-end (l .inv .2) (omega arith), l .inv .3 ∙ past-blanked _ _ _ (omega arith) (blanked (c .before .before) .blank .ensures))
+    let k = c .before .before in
+    let p = entry k .pre in
+    (swept-end (p .1) (l .inv .2) (l .inv .1) (omega arith), l .inv .3 ∙ past-blanked _ _ _ (omega arith) (blanked k .blank .ensures))
 
 pub cells-spec : {M : Type 1} → statement M
 cells-spec =

@@ -2,7 +2,8 @@
 -- else each part of the answer is the definition's. Assumes nothing.
 use native.Mathlib.Omega.{arith}
 use borrow.Author.Needs.{needs}
-use Rattle.report.proofs.Answers.{Tabled, report-sizes, report-limits, report-tables, report-tabled, report-marked, report-unreached, report-counted}
+use Rattle.flood.proofs.Queues.{full-marked}
+use Rattle.report.proofs.Answers.{Tabled, report-sizes, report-limits, report-tables, report-tabled, unreached-below, report-unreached, report-counted}
 use Rattle.report.proofs.report.Statement.{statement}
 use Rattle.report.proofs.report.Tie as tie
 
@@ -20,9 +21,9 @@ tabled c =
     let m = sized c .before .misfit in
     report-tabled (a .dim) (a .darts) (a .tables .now) (a .work .now) (m .ensures) (sized c .if1 .left) (c .before .before .misbuilt .ensures) (c .if2 .left)
 
--- from the search for a dart with no mark back: what is reached was marked, after the tables
-abbrev spanned : tie.After-first-unnumbered → tie.After-span
-spanned c = c .before .before .before .before
+-- from the third test back: what is reached was marked, after the tables
+abbrev spanned : tie.After-struct-known2 → tie.After-span
+spanned c = c .before .before .before
 
 abbrev passed : tie.After-span → tie.Else2
 passed c = c .before .before
@@ -61,21 +62,26 @@ span-requires c κs = let T = tabled (c .before) in (T .limits, T .valid, T .roo
 
 first-unnumbered-requires : tie.Need-first-unnumbered-requires
 first-unnumbered-requires c κs =
-    let s = c .before .before .before in
+    let s = spanned (c .before .before) in
     omega (arith, tabled (passed s) .room, s .span .kept .1 .0)
 
 mul-blank : tie.Need-mul-blank
-mul-blank c = omega (arith, tabled (passed (spanned (c .before .before))) .limits .darts .1)
+mul-blank c = omega (arith, tabled (passed (spanned (c .before .before .before .before))) .limits .darts .1)
 
 blank-requires : tie.Need-blank-requires
 blank-requires c κs =
-    let s = spanned (c .before .before) in
+    let s = spanned (c .before .before .before .before) in
     omega (arith, tabled (passed s) .room, s .span .kept .1 .0)
 
 cast-refusal : tie.Need-cast-refusal
 cast-refusal c =
-    let t = c .before .before .before .before in
-    omega (arith, tabled (passed (spanned (t .before))) .limits .darts .1, t .if3 .taken)
+    let f = c .before .before .before .before in
+    let t = f .before .before in
+    let s = spanned (t .before) in
+    let k = s .span in
+    let T = tabled (passed s) in
+    let below = unreached-below T (k .ensures .0) (k .ensures .1) (k .kept .1 .0) (f .first-unnumbered .ensures) (t .if3 .taken) in
+    omega (arith, T .limits .darts .1, below)
 
 refusal-requires-3 : tie.Need-refusal-requires-3
 refusal-requires-3 c κs = search needs
@@ -85,20 +91,21 @@ same-length c = search needs
 
 returns-3 : tie.Need-returns-3
 returns-3 c =
-    let t = c .before .before .before .before .before in
-    let f = t .before in
-    let k = spanned f .span in
-    let T = tabled (passed (spanned f)) in
+    let f = c .before .before .before .before .before in
+    let t = f .before .before in
+    let s = spanned (t .before) in
+    let k = s .span in
+    let T = tabled (passed s) in
     let eu = c .before .before .before .blank .ensures in
-    report-unreached T (k .ensures .0) (k .kept .1 .0) (f .first-unnumbered .ensures) eu (k .ensures .1) (c .refusal3 .ensures) (t .if3 .taken)
+    let ed = f .first-unnumbered .ensures in
+    report-unreached T (k .ensures .0) (k .ensures .1) (k .kept .1 .0) eu (k .ensures .2) (c .refusal3 .ensures) ed (t .if3 .taken)
 
 counted-requires : tie.Need-counted-requires
 counted-requires c κs =
-    let f = c .before .before in
-    let k = spanned f .span in
-    let T = tabled (passed (spanned f)) in
-    let all = report-marked T (k .ensures .0) (k .kept .1 .0) (f .first-unnumbered .ensures) (c .before .if3 .left) in
-    (T .limits, T .valid, omega (arith, T .room, k .kept .1 .0), k .ensures .0, all)
+    let s = spanned (c .before .before) in
+    let k = s .span in
+    let T = tabled (passed s) in
+    (T .limits, T .valid, omega (arith, T .room, k .kept .1 .0), k .ensures .0, full-marked (k .ensures .1) (c .before .if3 .left))
 
 same-length-2 : tie.Need-same-length-2
 same-length-2 c = search needs
@@ -106,10 +113,10 @@ same-length-2 c = search needs
 returns-4 : tie.Need-returns-4
 returns-4 c =
     let e = c .before .before .before .before in
-    let f = e .before in
-    let k = spanned f .span in
+    let s = spanned (e .before) in
+    let k = s .span in
     let m = c .before .before .counted .ensures in
-    report-counted (tabled (passed (spanned f))) (k .ensures .0) (k .kept .1 .0) (f .first-unnumbered .ensures) (m .1) (k .ensures .1) (m .0) (e .if3 .left)
+    report-counted (tabled (passed s)) (k .ensures .0) (k .ensures .1) (k .kept .1 .0) (m .1) (k .ensures .2) (m .0) (e .if3 .left)
 
 pub report-spec : {M : Type 1} → statement M
 report-spec =

@@ -85,7 +85,7 @@ returns c =
     let b = blanked (f .before .before) in
     let Q = queue-blanked _ _ _ (omega arith) (b .blank .ensures) in
     let past = flooded-on Q (omega arith) (omega arith) (f .flood .ensures) .past ∙ past-blanked _ _ _ (omega arith) (b .blank .ensures) in
-    (spun-end (entry b .pre .1) (omega arith) (l .loop .inv .1) (c .if1 .left), l .loop .inv .2 ∙ past)
+    (spun-end (entry b .pre .1) (omega arith) (l .loop .inv .1) (c .if1 .left), l .loop .inv .1 .queue, l .loop .inv .2 ∙ past)
 
 pub span-spec : {M : Type 1} → statement M
 span-spec =
