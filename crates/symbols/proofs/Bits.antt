@@ -1,50 +1,31 @@
--- Laws of bits: of a number, of a byte, of a page, one by one and fourteen at once; a number from its bits; bits that begin a symbol.
--- Rests on the laws of codes.
+-- Laws of bits: of a number, of a page, and of the symbol that they begin. Rests on the laws of codes.
 use Prim.Native.Nat.{ℕ, zero, suc, _+_, _*_, _-_, _/_, _%_, _≤_, _<_, _^_}
 use mathlib.Core.Path.{_≡_, refl, ap, sym, _∙_}
-use mathlib.Core.Bool.{Bool, true, false, cond}
-use mathlib.Core.List.{List, [], _∷_, _++_, append-assoc}
+use mathlib.Core.Logic.{_≢_}
+use mathlib.Core.Bool.{Bool, true, false}
+use mathlib.Core.List.{List, [], _∷_, _++_}
 use native.Mathlib.Omega.{arith}
-use native.Mathlib.Nat.{pow-suc, pow-le-pow-right, mod-lt}
+use native.Mathlib.Nat.{mod-lt, mul-mod-left}
 use native.Mathlib.Numerals.{add-one}
-use lib.ListN.{length, getD, take, drop, length-drop}
-use lib.Seq.{drop-at, drop-nil, drop-append-le, drop-drop, take-length, drop-cons, take-add, length-take-le}
-use lib.Dec.{eqb, ltb}
-use borrow.Author.Tests.{lt-ltb, le-leb, lt-leb, le-ltb}
-use lib.Pow.{pow-pos, shl-exact, field, mod-mod-pow}
+use lib.ListN.{length, getD, take, drop, replicate, length-append, drop-of-length-le}
+use lib.Seq.{take-at, drop-at, drop-nil, take-append-le, drop-append-le, drop-drop, drop-cons}
+use lib.Dec.{eqb}
+use borrow.Author.Tests.{lt-ltb, le-ltb, le-leb, lt-leb, leb-true}
+use lib.Pow.{pow-pos, shl-shr, mod-pow-add, field, mod-mod-pow}
 use Rattle.rules.specs.Walk.{Symbol}
-use Rattle.rules.specs.Stream.{bitsOf, value, unpack, Taken, takeIndex}
+use Rattle.rules.specs.Stream.{bitsOf, value, unpack, Taken, takeIndex, takeSymbol}
 use Rattle.rules.specs.Session.{begins}
-use Rattle.rules.proofs.Codes.{value-more, length-bits, value-lt, bits-join, bits-split}
+use Rattle.rules.proofs.Codes.{length-bits, value-bits, bits-split}
+use Rattle.symbols.specs.Hands.{size, whole}
 
 -- the bits of a number, first bit first
-pub bits-one : (k x : ℕ) → 2 ^ k ≤ x → bitsOf (suc k) x ≡ true ∷ bitsOf k (x - 2 ^ k)
+bits-one : (k x : ℕ) → 2 ^ k ≤ x → bitsOf (suc k) x ≡ true ∷ bitsOf k (x - 2 ^ k)
 unfolding bitsOf
 bits-one k x h = rw (le-leb (2 ^ k) x h)
 
-pub bits-zero : (k x : ℕ) → x < 2 ^ k → bitsOf (suc k) x ≡ false ∷ bitsOf k x
+bits-zero : (k x : ℕ) → x < 2 ^ k → bitsOf (suc k) x ≡ false ∷ bitsOf k x
 unfolding bitsOf
 bits-zero k x h = rw (lt-leb (2 ^ k) x h)
-
--- the first bit of w by its weight h, as the code shifts it
-module _ (w x h : ℕ) (some : 0 < w) (few : w ≤ 16) (shifted : h ≡ 1 * 2 ^ (w - 1) % 65536) where
-  weight : h ≡ 2 ^ (w - 1)
-  weight = shifted ∙ (shl-exact 1 (w - 1) 16 (omega arith) (omega arith) ∙ omega arith)
-
-  longer : w ≡ suc (w - 1)
-  longer = omega arith
-
-  pub first-one : h ≤ x → bitsOf w x ≡ true ∷ bitsOf (w - 1) (x - h)
-  first-one l = ap (λ (n : ℕ). bitsOf n x) longer ∙ rw weight (bits-one (w - 1) x (omega (arith, weight)))
-
-  pub first-zero : x < h → bitsOf w x ≡ false ∷ bitsOf (w - 1) x
-  first-zero l = ap (λ (n : ℕ). bitsOf n x) longer ∙ bits-zero (w - 1) x (omega (arith, weight))
-
-  pub holds-one : x < 2 ^ w → x - h < 2 ^ (w - 1)
-  holds-one l = omega (arith, weight, ap (λ (n : ℕ). 2 ^ n) longer, pow-suc 2 (w - 1))
-
-  pub holds-zero : x < h → x < 2 ^ (w - 1)
-  holds-zero l = omega (arith, weight)
 
 -- j bits of a number, after i others and before k others, by a shift
 bits-field : (i j k x : ℕ) → x < 2 ^ (i + (j + k)) → drop i (bitsOf (i + (j + k)) x) ≡ bitsOf j (x / 2 ^ k % 2 ^ j) ++ bitsOf k (x % 2 ^ k)
@@ -66,24 +47,30 @@ bit-at b j x h =
     let g : drop (b + 1) bits ≡ bitsOf j (x % 2 ^ j) = sym (drop-drop 1 b bits) ∙ rw f in
     rw g f
 
--- the bits of a page from a byte on, a byte at a time and a bit at a time
+-- the bits of a number after the first k
+pub bits-drop : (k j x : ℕ) → x < 2 ^ (k + j) → drop k (bitsOf (k + j) x) ≡ bitsOf j (x % 2 ^ j)
+bits-drop k j x h = rw (bits-split k j x h) (drop-at (bitsOf k (x / 2 ^ j)) (bitsOf j (x % 2 ^ j)) k (length-bits k (x / 2 ^ j)))
+
+-- the number that a byte's bits after the first b write, by a shift within the byte
+pub byte-shifted : (b x : ℕ) → b < 8 → x < 256 → x * 2 ^ b % 256 ≡ value (drop b (bitsOf 8 x)) * 2 ^ b
+byte-shifted b x h hx =
+    let n : 8 - b + b ≡ 8 = omega arith in
+    let m : b + (8 - b) ≡ 8 = omega arith in
+    let d : drop b (bitsOf 8 x) ≡ bitsOf (8 - b) (x % 2 ^ (8 - b)) = rw m at (bits-drop b (8 - b) x (rw m hx)) in
+    let v : value (drop b (bitsOf 8 x)) ≡ x % 2 ^ (8 - b) = rw d (value-bits (8 - b) (x % 2 ^ (8 - b)) (mod-lt x (pow-pos (8 - b)))) in
+    let e = rw (n, shl-shr x b, mul-mod-left x (2 ^ b)) at (mod-pow-add (x * 2 ^ b) (8 - b) b) in
+    rw v (e ∙ omega arith)
+
+-- the bits of a page from a byte on: those of the byte from bit b on, then those from the next byte on
 module _ (page : List ℕ) (at : ℕ) (within : at < length page) where
   page-byte : unpack (drop at page) ≡ bitsOf 8 (getD page at 0) ++ unpack (drop (suc at) page)
   unfolding unpack
   page-byte = rw (drop-cons page at 0 within)
 
-  pub page-bit : (b : ℕ) → b < 8 → getD page at 0 < 256
-      → drop b (unpack (drop at page)) ≡ eqb (getD page at 0 / 2 ^ (7 - b) % 2) 1 ∷ drop (b + 1) (unpack (drop at page))
-  page-bit b h hx =
+  pub page-loaded : (b : ℕ) → b < 8 → drop b (unpack (drop at page)) ≡ drop b (bitsOf 8 (getD page at 0)) ++ unpack (drop (at + 1) page)
+  page-loaded b h =
       let x = getD page at 0 in
-      let l = length-bits 8 x in
-      let n : b + (1 + (7 - b)) ≡ 8 = omega arith in
-      rw (
-        page-byte,
-        drop-append-le b (bitsOf 8 x) (unpack (drop (suc at) page)) (omega arith),
-        drop-append-le (b + 1) (bitsOf 8 x) (unpack (drop (suc at) page)) (omega arith),
-        rw n at (bit-at b (7 - b) x (rw n hx)),
-      )
+      rw (add-one at, page-byte, drop-append-le b (bitsOf 8 x) (unpack (drop (suc at) page)) (omega (arith, length-bits 8 x)))
 
 -- whole bytes dropped
 unpack-drop : (k : ℕ) (xs : List ℕ) → drop (8 * k) (unpack xs) ≡ unpack (drop k xs)
@@ -100,106 +87,190 @@ page-moved page at to =
     let e : 8 * (to / 8) + to % 8 ≡ to = omega arith in
     rw (← drop-drop (to / 8) at page, ← unpack-drop (to / 8) (drop at page), drop-drop (to % 8) (8 * (to / 8)) (unpack (drop at page)), e)
 
--- two numbers' bits, and bits after those
-pub bits-before : (j k a b : ℕ) (rest : List Bool) → a < 2 ^ j → b < 2 ^ k → bitsOf j a ++ (bitsOf k b ++ rest) ≡ bitsOf (j + k) (a * 2 ^ k + b) ++ rest
-bits-before j k a b rest ha hb = sym (append-assoc (bitsOf j a) (bitsOf k b) rest) ∙ rw (bits-join j k a b ha hb)
+-- how many bits a symbol has by its first bits, and by the bits of a number of 24
+pub size-pos : (bs : List Bool) → 1 ≤ size bs
+unfolding size
+size-pos [] = omega arith
+size-pos (false ∷ bs) = omega arith
+size-pos (true ∷ []) = omega arith
+size-pos (true ∷ false ∷ bs) = omega arith
+size-pos (true ∷ true ∷ bs) = omega arith
 
--- the number of three bytes of a page, and of fourteen of their bits from bit b on
-abbrev pub threeAt : List ℕ → ℕ → ℕ
-threeAt page at = (getD page at 0 * 256 + getD page (at + 1) 0) * 256 + getD page (at + 2) 0
+pub size-most : (bs : List Bool) → size bs ≤ 14
+unfolding size
+size-most [] = omega arith
+size-most (false ∷ bs) = omega arith
+size-most (true ∷ []) = omega arith
+size-most (true ∷ false ∷ bs) = omega arith
+size-most (true ∷ true ∷ bs) = omega arith
 
-abbrev pub headAt : List ℕ → ℕ → ℕ → ℕ
-headAt page at b = threeAt page at / 2 ^ (10 - b) % 16384
+pub size-kinds : (bs : List Bool) → size bs ≢ 1 → size bs ≢ 2 → size bs ≡ 14
+unfolding size
+size-kinds [] h k = absurd (h refl)
+size-kinds (false ∷ bs) h k = absurd (h refl)
+size-kinds (true ∷ []) h k = absurd (k refl)
+size-kinds (true ∷ false ∷ bs) h k = absurd (k refl)
+size-kinds (true ∷ true ∷ bs) h k = refl
 
--- a byte of a page and the two after it as one number, and of its bits fourteen from bit b on
-module _ (page : List ℕ) (at : ℕ) (within : at + 2 < length page) (hx : getD page at 0 < 256) (hy : getD page (at + 1) 0 < 256)
-    (hz : getD page (at + 2) 0 < 256) where
-  page-three : unpack (drop at page) ≡ bitsOf 24 ((getD page at 0 * 256 + getD page (at + 1) 0) * 256 + getD page (at + 2) 0) ++ unpack (drop (at + 3) page)
-  page-three =
-      let x = getD page at 0 in
-      let y = getD page (at + 1) 0 in
-      let z = getD page (at + 2) 0 in
-      let rest = unpack (drop (at + 3) page) in
-      let e : suc (at + 1) ≡ at + 2 = omega arith in
-      let f : suc (at + 2) ≡ at + 3 = omega arith in
-      let q : unpack (drop (at + 1) page) ≡ bitsOf 8 y ++ unpack (drop (at + 2) page) = rw e at (page-byte page (at + 1) (omega arith)) in
-      let r : unpack (drop (at + 2) page) ≡ bitsOf 8 z ++ rest = rw f at (page-byte page (at + 2) (omega arith)) in
-      rw (
-        page-byte page at (omega arith),
-        ← add-one at,
-        q,
-        r,
-        bits-before 8 8 x y (bitsOf 8 z ++ rest) hx hy,
-        bits-before 16 8 (x * 256 + y) z rest (omega arith) hz,
-      )
+pub size-wide : (bs : List Bool) → size bs ≡ 14 → 2 ≤ length bs
+unfolding size
+size-wide [] e = absurd (omega arith)
+size-wide (false ∷ bs) e = absurd (omega arith)
+size-wide (true ∷ []) e = absurd (omega arith)
+size-wide (true ∷ false ∷ bs) e = absurd (omega arith)
+size-wide (true ∷ true ∷ bs) e = omega arith
 
-  pub page-head : (b : ℕ) → b < 8 → (rest : List Bool) × (drop b (unpack (drop at page)) ≡ bitsOf 14 (headAt page at b) ++ rest)
-  page-head b h =
-      let three = threeAt page at in
-      let low = bitsOf (10 - b) (three % 2 ^ (10 - b)) in
-      let after = unpack (drop (at + 3) page) in
-      let n : b + (14 + (10 - b)) ≡ 24 = omega arith in
-      let f : drop b (bitsOf 24 three) ≡ bitsOf 14 (headAt page at b) ++ low = rw n at (bits-field b 14 (10 - b) three (rw n (omega arith))) in
-      let e : drop b (unpack (drop at page)) ≡ bitsOf 14 (headAt page at b) ++ (low ++ after) =
-      rw (page-three, drop-append-le b (bitsOf 24 three) after (omega (arith, length-bits 24 three)), f)
-      (append-assoc (bitsOf 14 (headAt page at b)) low after) in
-      (low ++ after, e)
+-- zeros after bits, which tell no more than the bits do
+pub size-zeros : (bs : List Bool) (k : ℕ) → size (bs ++ replicate k false) ≡ size bs
+unfolding size
+size-zeros [] zero = refl
+size-zeros [] (suc k) = refl
+size-zeros (false ∷ bs) k = refl
+size-zeros (true ∷ []) zero = refl
+size-zeros (true ∷ []) (suc k) = refl
+size-zeros (true ∷ false ∷ bs) k = refl
+size-zeros (true ∷ true ∷ bs) k = refl
 
--- i bits of bs were taken, v is the number that they write, and l are left
-pub record Taking (bs l : List Bool) (i v : ℕ) : Type 0 where
-  pub upTo : i ≤ length bs
-  pub rest : drop i bs ≡ l
-  pub wrote : v ≡ value (take i bs)
+-- bits after others, and after a whole symbol
+pub size-grows : (bs ys : List Bool) → size bs ≤ size (bs ++ ys)
+unfolding size
+size-grows [] ys = size-pos ys
+size-grows (false ∷ bs) ys = omega arith
+size-grows (true ∷ []) [] = omega arith
+size-grows (true ∷ []) (false ∷ ys) = omega arith
+size-grows (true ∷ []) (true ∷ ys) = omega arith
+size-grows (true ∷ false ∷ bs) ys = omega arith
+size-grows (true ∷ true ∷ bs) ys = omega arith
 
-pub taking-start : (bs : List Bool) → Taking bs bs 0 0
-unfolding value
-taking-start bs = record { upTo = omega arith; rest = refl; wrote = refl }
+pub size-more : (bs ys : List Bool) → size bs ≤ length bs → size (bs ++ ys) ≡ size bs
+unfolding size
+size-more [] ys h = absurd (omega arith)
+size-more (false ∷ bs) ys h = refl
+size-more (true ∷ []) ys h = absurd (omega arith)
+size-more (true ∷ false ∷ bs) ys h = refl
+size-more (true ∷ true ∷ bs) ys h = refl
 
-pub taking-more : {bs l : List Bool} {i v : ℕ} → Taking bs l i v → (b : Bool) (m : List Bool) → l ≡ b ∷ m → (u : ℕ) → u ≡ 2 * v + cond b 1 0
-    → Taking bs m (i + 1) u
-taking-more {bs} {l} {i} {v} r b m e u d =
-    let q : drop i bs ≡ b ∷ m = r .rest ∙ e in
-    let t : take (i + 1) bs ≡ take i bs ++ (b ∷ []) = take-add i 1 bs ∙ rw q in
-    record {
-      upTo = omega (arith, length-drop i bs, ap length q);
-      rest = sym (drop-drop 1 i bs) ∙ rw q;
-      wrote = rw (t, value-more (take i bs) b, ← r .wrote) d;
-    }
+-- bits that begin a symbol are fewer than the symbol has
+pub begins-size : (ws ys : List Bool) → begins ws ≡ true → length ws < size (ws ++ ys)
+unfolding begins size
+begins-size [] ys g = size-pos ys
+begins-size (false ∷ ws) ys g = let z : _≡_ {A = ℕ} 0 1 = cc in absurd (omega arith)
+begins-size (true ∷ []) [] g = omega arith
+begins-size (true ∷ []) (false ∷ ys) g = omega arith
+begins-size (true ∷ []) (true ∷ ys) g = omega arith
+begins-size (true ∷ false ∷ ws) ys g = let z : _≡_ {A = ℕ} 0 1 = cc in absurd (omega arith)
+begins-size (true ∷ true ∷ ws) ys g = omega (arith, leb-true (length ws) 11 g)
 
-pub taking-end : {bs : List Bool} {i v : ℕ} → Taking bs [] i v → (i ≡ length bs) × (v ≡ value bs)
-taking-end {bs} {i} {v} r =
-    let n : i ≡ length bs = omega (arith, r .upTo, length-drop i bs, ap length (r .rest)) in
-    let e : take i bs ≡ bs = rw n (take-length bs) in
-    (n, rw e at (r .wrote))
+-- bits that hold a whole symbol, N or B, or none
+pub whole-new : (ws : List Bool) → whole ws ≡ 1 → (size ws ≡ 1) × (1 ≤ length ws)
+unfolding whole size
+whole-new [] e = absurd (omega arith)
+whole-new (false ∷ ws) e = (refl, omega arith)
+whole-new (true ∷ []) e = absurd (omega arith)
+whole-new (true ∷ false ∷ ws) e = absurd (omega arith)
+whole-new (true ∷ true ∷ ws) e = absurd (omega arith)
 
--- a number of at most 13 bits
-pub taking-small : {bs l : List Bool} {i v : ℕ} → Taking bs l i v → i ≤ 13 → v < 8192
-taking-small {bs} {l} {i} {v} r h =
-    let p : 2 ^ i ≤ 2 ^ 13 = pow-le-pow-right (omega arith) h in
-    let n : length (take i bs) ≡ i = length-take-le i bs (r .upTo) in
-    let t : value (take i bs) < 2 ^ i = rw n at (value-lt (take i bs)) in
-    omega (arith, r .wrote)
+pub whole-border : (ws : List Bool) → whole ws ≡ 2 → (size ws ≡ 2) × (2 ≤ length ws)
+unfolding whole size
+whole-border [] e = absurd (omega arith)
+whole-border (false ∷ ws) e = absurd (omega arith)
+whole-border (true ∷ []) e = absurd (omega arith)
+whole-border (true ∷ false ∷ ws) e = (refl, omega arith)
+whole-border (true ∷ true ∷ ws) e = absurd (omega arith)
 
--- twelve bits, or that they run out, are what the w wants
-pub number-whole : (bs l : List Bool) (v : ℕ) → Taking bs l 12 v → Taken.symbol (Symbol.index v) l ≡ takeIndex (ltb (length bs) 12) bs
-unfolding takeIndex
-number-whole bs l v r = rw (le-ltb (length bs) 12 (r .upTo), r .rest, r .wrote)
+pub whole-none : (ws : List Bool) → length ws ≤ 13 → whole ws ≢ 1 → whole ws ≢ 2 → length ws < size ws
+unfolding whole size
+whole-none [] l h k = omega arith
+whole-none (false ∷ ws) l h k = absurd (h refl)
+whole-none (true ∷ []) l h k = omega arith
+whole-none (true ∷ false ∷ ws) l h k = absurd (k refl)
+whole-none (true ∷ true ∷ ws) l h k = omega arith
 
-pub number-short : (bs : List Bool) (i v : ℕ) → i < 12 → Taking bs [] i v → Taken.short ≡ takeIndex (ltb (length bs) 12) bs
-unfolding takeIndex
-number-short bs i v h r = rw (lt-ltb (length bs) 12 (omega (arith, taking-end r .0)))
+-- the same by the first two of w bits of a number
+module _ (w x : ℕ) (l : x < 2 ^ w) where
+  first-bit : 1 ≤ w → bitsOf w x ≡ eqb (x / 2 ^ (w - 1) % 2) 1 ∷ drop 1 (bitsOf w x)
+  first-bit h = let n : 0 + (1 + (w - 1)) ≡ w = omega arith in rw n at (bit-at 0 (w - 1) x (rw n l))
 
--- what waits and begins a symbol is no longer than the symbol
-pub begun-new : (ws ys bs : List Bool) → begins ws ≡ true → ws ++ ys ≡ false ∷ bs → length ws ≡ 0
-unfolding begins
-begun-new [] ys bs g e = refl
-begun-new (false ∷ ws) ys bs g e = let z : _≡_ {A = ℕ} 0 1 = cc in absurd (omega arith)
-begun-new (true ∷ ws) ys bs g e = let z : _≡_ {A = ℕ} 0 1 = cc in absurd (omega arith)
+  second-bit : 2 ≤ w → drop 1 (bitsOf w x) ≡ eqb (x / 2 ^ (w - 2) % 2) 1 ∷ drop 2 (bitsOf w x)
+  second-bit h = let n : 1 + (1 + (w - 2)) ≡ w = omega arith in rw n at (bit-at 1 (w - 2) x (rw n l))
 
-pub begun-border : (ws ys bs : List Bool) → begins ws ≡ true → ws ++ ys ≡ true ∷ false ∷ bs → length ws ≤ 1
-unfolding begins
-begun-border [] ys bs g e = omega arith
-begun-border (false ∷ ws) ys bs g e = let z : _≡_ {A = ℕ} 0 1 = cc in absurd (omega arith)
-begun-border (true ∷ []) ys bs g e = omega arith
-begun-border (true ∷ false ∷ ws) ys bs g e = let z : _≡_ {A = ℕ} 0 1 = cc in absurd (omega arith)
-begun-border (true ∷ true ∷ ws) ys bs g e = let z : _≡_ {A = ℕ} 0 1 = cc in absurd (omega arith)
+  pub first-zero : 1 ≤ w → x / 2 ^ (w - 1) % 2 ≡ 0 → whole (bitsOf w x) ≡ 1
+  unfolding whole
+  first-zero h e = ap whole (first-bit h) ∙ rw e
+
+  module _ (one : x / 2 ^ (w - 1) % 2 ≢ 0) where
+    is-one : x / 2 ^ (w - 1) % 2 ≡ 1
+    is-one = omega arith
+
+    pub alone : w ≡ 1 → whole (bitsOf w x) ≡ 0
+    unfolding whole
+    alone e =
+        let n : length (bitsOf w x) ≤ 1 = omega (arith, length-bits w x) in
+        let d : drop 1 (bitsOf w x) ≡ [] = drop-of-length-le (bitsOf w x) n in
+        ap whole (first-bit (omega arith)) ∙ rw (is-one, d)
+
+    pub second-zero : 2 ≤ w → x / 2 ^ (w - 2) % 2 ≡ 0 → whole (bitsOf w x) ≡ 2
+    unfolding whole
+    second-zero h e = ap whole (first-bit (omega arith)) ∙ rw (is-one, second-bit h, e)
+
+    pub second-one : 2 ≤ w → x / 2 ^ (w - 2) % 2 ≢ 0 → whole (bitsOf w x) ≡ 0
+    unfolding whole
+    second-one h n =
+        let e : x / 2 ^ (w - 2) % 2 ≡ 1 = omega arith in
+        ap whole (first-bit (omega arith)) ∙ rw (is-one, second-bit h, e)
+
+-- the symbol by its size: bits run out, or N, B or w
+pub size-short : (bs : List Bool) → length bs < size bs → takeSymbol bs ≡ Taken.short
+unfolding size takeSymbol takeIndex
+size-short [] h = refl
+size-short (false ∷ bs) h = absurd (omega arith)
+size-short (true ∷ []) h = refl
+size-short (true ∷ false ∷ bs) h = absurd (omega arith)
+size-short (true ∷ true ∷ bs) h = rw (lt-ltb (length bs) 12 (omega arith))
+
+pub size-new : (bs ys : List Bool) → size bs ≡ 1 → 1 ≤ length bs → takeSymbol (bs ++ ys) ≡ Taken.symbol Symbol.new (drop 1 (bs ++ ys))
+unfolding size takeSymbol
+size-new [] ys e h = absurd (omega arith)
+size-new (false ∷ bs) ys e h = refl
+size-new (true ∷ []) ys e h = absurd (omega arith)
+size-new (true ∷ false ∷ bs) ys e h = absurd (omega arith)
+size-new (true ∷ true ∷ bs) ys e h = absurd (omega arith)
+
+pub size-border : (bs ys : List Bool) → size bs ≡ 2 → 2 ≤ length bs → takeSymbol (bs ++ ys) ≡ Taken.symbol Symbol.border (drop 2 (bs ++ ys))
+unfolding size takeSymbol
+size-border [] ys e h = absurd (omega arith)
+size-border (false ∷ bs) ys e h = absurd (omega arith)
+size-border (true ∷ []) ys e h = absurd (omega arith)
+size-border (true ∷ false ∷ bs) ys e h = refl
+size-border (true ∷ true ∷ bs) ys e h = absurd (omega arith)
+
+pub size-index : (bs ys : List Bool) → size bs ≡ 14 → 14 ≤ length bs
+    → takeSymbol (bs ++ ys) ≡ Taken.symbol (Symbol.index (value (take 12 (drop 2 bs)))) (drop 14 (bs ++ ys))
+unfolding size takeSymbol takeIndex
+size-index [] ys e h = absurd (omega arith)
+size-index (false ∷ bs) ys e h = absurd (omega arith)
+size-index (true ∷ []) ys e h = absurd (omega arith)
+size-index (true ∷ false ∷ bs) ys e h = absurd (omega arith)
+size-index (true ∷ true ∷ bs) ys e h =
+    rw (le-ltb (length (bs ++ ys)) 12 (simp length-append (omega arith)), take-append-le 12 bs ys (omega arith))
+
+-- the size by a number of 24 bits
+pub number-new : (x : ℕ) → x < 8388608 → size (bitsOf 24 x) ≡ 1
+unfolding size
+number-new x h = rw (bits-zero 23 x h)
+
+pub number-border : (x : ℕ) → 8388608 ≤ x → x < 12582912 → size (bitsOf 24 x) ≡ 2
+unfolding size
+number-border x l h = rw (bits-one 23 x l, bits-zero 22 (x - 8388608) (omega arith))
+
+pub number-index : (x : ℕ) → 12582912 ≤ x → size (bitsOf 24 x) ≡ 14
+unfolding size
+number-index x l = rw (bits-one 23 x (omega arith), bits-one 22 (x - 8388608) (omega arith))
+
+-- the walk number of a w, out of 24 bits
+pub number-walk : (x : ℕ) → 12582912 ≤ x → x < 16777216 → value (take 12 (drop 2 (bitsOf 24 x))) ≡ x / 1024 - 12288
+number-walk x l h =
+    let y = x % 4194304 in
+    let q : y / 1024 < 4096 = omega arith in
+    let d : drop 2 (bitsOf 24 x) ≡ bitsOf 12 (y / 1024) ++ bitsOf 10 (y % 1024) = bits-drop 2 22 x h ∙ bits-split 12 10 y (omega arith) in
+    rw (d, take-at (bitsOf 12 (y / 1024)) (bitsOf 10 (y % 1024)) 12 (length-bits 12 (y / 1024)), value-bits 12 (y / 1024) q) (omega arith)

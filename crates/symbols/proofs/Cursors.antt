@@ -1,189 +1,230 @@
--- Laws of cursors: the page's bits at hand, one of them taken, what a symbol leaves, and a symbol by its first fourteen bits. Rests on the laws of bits.
+-- Laws of cursors: the first bits at hand, a byte more of them, the cursor past them, and the symbol that they tell. Rests on the laws of hands.
 use Prim.Native.Nat.{ℕ, _+_, _*_, _-_, _/_, _%_, _≤_, _<_, _^_}
-use mathlib.Core.Path.{_≡_, refl, sym, _∙_}
+use mathlib.Core.Path.{_≡_, refl, ap, sym, _∙_}
 use mathlib.Core.Logic.{_≢_}
-use mathlib.Core.List.{List, [], _∷_, _++_}
-use mathlib.Core.Bool.{Bool, true, false, cond}
+use mathlib.Core.Bool.{Bool, true}
+use mathlib.Core.List.{List, [], _++_, append-assoc, append-nil}
 use native.Mathlib.Omega.{arith}
-use lib.ListN.{length, getD, drop, drop-of-length-le}
-use lib.Seq.{drop-nil, drop-drop, drop-append-seam}
-use borrow.Author.Tests.{eq-eqb, ne-eqb}
-use Rattle.rules.specs.declared.WalkNo.{WalkNo}
-use Rattle.rules.specs.declared.Symbol.the-variants.{New, Border, Index}
-use Rattle.rules.specs.Session.{begins}
-use Rattle.rules.specs.Walk.{Symbol}
+use native.Mathlib.Nat.{mod-lt}
+use lib.ListN.{length, getD, drop, length-append, drop-of-length-le}
+use lib.Seq.{drop-nil, drop-drop, drop-append-le, drop-append-add}
+use lib.Pow.{pow-pos, shl-exact}
+use Rattle.rules.specs.declared.Symbol.{Symbol}
+use Rattle.rules.specs.declared.Symbol.the-variants.{New, Border}
+use Rattle.rules.specs.Stream.{bitsOf, unpack, takeSymbol}
 use Rattle.rules.specs.Stream as stream
-use Rattle.rules.specs.Stream.{bitsOf, unpack, code, takeSymbol}
-use Rattle.rules.proofs.Codes.{length-bits, taken-code}
+use Rattle.rules.specs.Session.{begins}
+use Rattle.rules.specs.Symbols.{toldSymbol}
+use Rattle.rules.proofs.Codes.{length-bits}
 use Rattle.symbols.specs.declared.Cursor.{Cursor}
-use Rattle.symbols.specs.declared.Bit.{Bit}
-use Rattle.symbols.specs.declared.Bit.the-variants.{Out, Zero, One}
+use Rattle.symbols.specs.declared.Hand.{Hand}
 use Rattle.symbols.specs.declared.Taken.the-variants as Taken
-use Rattle.symbols.specs.declared.Number.{Number}
-use Rattle.symbols.specs.declared.Number.the-variants as Number
-use Rattle.symbols.specs.Cursors.{atHand, CursorFits, PastPage, bitsWith, Past, PastBit, BitTaken, toldNumber, PastNumber, NumberTaken, told}
-use Rattle.symbols.specs.Cursors.{PastSymbol, SymbolTaken}
-use Rattle.symbols.proofs.Bits.{page-bit, bits-before, headAt, page-head, Taking, taking-start, taking-more, begun-new, begun-border}
+use Rattle.symbols.specs.Cursors.{atHand, CursorFits, Past, told, PastSymbol, SymbolTaken}
+use Rattle.symbols.specs.Hands.{size, whole, none, held, HandFits, Loads, Joins, Holds, InHand, Needed, Reads}
+use Rattle.symbols.proofs.Bits.{bits-drop, page-loaded, page-moved, size-pos, size-most, size-grows, size-more, size-short, size-new, size-border}
+use Rattle.symbols.proofs.Bits.{begins-size, whole-new, whole-border, whole-none}
+use Rattle.symbols.proofs.Hands.{length-held, none-held}
 
--- no bit waits: the page's bits are at hand
-module _ (c : Cursor) (page : List ℕ) (none : c .waiting ≡ 0) where
-  page-hand : atHand c page ≡ drop (c .bit) (unpack (drop (c .at) page))
+-- the weight of the bit before j others, as the code shifts it
+pub weight : (j : ℕ) → j ≤ 13 → 1 * 2 ^ j % 65536 ≡ 2 ^ j
+weight j h = shl-exact 1 j 16 (omega arith) (omega arith) ∙ omega arith
+
+-- the page's bits from a cursor on: those that a hand holds, then those from where it stands
+abbrev pub Ahead : Cursor → Hand → List ℕ → Type 0
+Ahead c h page = drop (c .bit) (unpack (drop (c .at) page)) ≡ held h ++ unpack (drop (h .at) page)
+
+pub ahead-end : (c : Cursor) (page : List ℕ) → length page ≤ c .at → Ahead c (none (c .at)) page
+unfolding unpack
+ahead-end c page e = rw (drop-of-length-le page e, none-held (c .at)) (drop-nil (c .bit))
+
+module _ (c : Cursor) {h : Hand} {page : List ℕ} where
+  pub ahead-here : c .at < length page → c .bit < 8 → Loads (c .bit) (none (c .at)) h page → Ahead c h page
+  ahead-here within inByte l = rw (l .held, none-held (c .at), l .at) (page-loaded page (c .at) within (c .bit) inByte)
+
+  -- all bits at hand, where none waits, and behind those that wait
+  pub alone : c .waiting ≡ 0 → HandFits h page → Ahead c h page → InHand c h page
   unfolding atHand bitsOf
-  page-hand = rw none
+  alone zero f a = record { fits = f; same = rw zero a }
 
-  pub page-out : length page ≤ c .at → BitTaken Out c page
-  unfolding bitsWith PastBit unpack
-  page-out h = record { tells = sym (page-hand ∙ rw (drop-of-length-le page h) (drop-nil (c .bit))); past = tt }
+  pub behind : {w g : Hand} → Holds c w page → Ahead c h page → Joins w h g page → InHand c g page
+  unfolding atHand
+  behind {w} {g} o a j =
+      let ws = bitsOf (c .waiting) (c .value) in
+      record { fits = j .fits; same = rw (a, j .held, o .held, j .at) (sym (append-assoc ws (held h) (unpack (drop (h .at) page)))) }
 
-  -- the first fourteen bits, out of three bytes
-  pub hand-head : CursorFits c page → c .at + 2 < length page → getD page (c .at) 0 < 256 → getD page (c .at + 1) 0 < 256 → getD page (c .at + 2) 0 < 256
-      → (rest : List Bool) × (atHand c page ≡ bitsOf 14 (headAt page (c .at) (c .bit)) ++ rest)
-  hand-head f within hx hy hz = let (rest, e) = page-head page (c .at) within hx hy hz (c .bit) (f .inByte) in (rest, page-hand ∙ e)
+  -- how a symbol begins in a hand
+  module _ (f : CursorFits c page) (within : c .at < length page) (l : Loads (c .bit) (none (c .at)) h page) where
+    pub here-starts : c .waiting ≡ 0 → Needed h × Reads c h page
+    here-starts zero =
+        let s = size-pos (held h) in
+        let m = l .more in
+        let a = l .at in (
+          record { some = omega (arith, f .inByte); loaded = omega arith; last = omega arith },
+          record { inHand = alone zero (l .fits) (ahead-here within (f .inByte) l); upTo = omega arith; longer = omega arith },
+        )
 
-  -- the bit at the cursor is taken, and d is past it
-  module _ (d : Cursor) (f : CursorFits c page) (within : c .at < length page) (byte : getD page (c .at) 0 < 256) (p : PastPage 1 c d page) where
-    pub page-one : getD page (c .at) 0 / 2 ^ (7 - c .bit) % 2 ≡ 1 → BitTaken (One d) c page
-    unfolding bitsWith PastBit
-    page-one e = record {
-      tells = rw (page-hand, page-bit page (c .at) within (c .bit) (f .inByte) byte, eq-eqb _ _ e, p .left);
-      past = record { fits = p .fits; gone = omega (arith, p .none) };
-    }
+    pub behind-starts : {w g : Hand} → c .waiting < size (bitsOf (c .waiting) (c .value)) → Holds c w page → Joins w h g page → Needed g × Reads c g page
+    behind-starts {w} {g} short o j =
+        let s : size (bitsOf (c .waiting) (c .value)) ≤ size (held g) = rw (j .held, o .held) (size-grows (bitsOf (c .waiting) (c .value)) (held h)) in
+        let m = l .more in
+        let n = j .more in
+        let k = o .bits in
+        let a = l .at in
+        let b = j .at in (
+          record { some = omega (arith, f .inByte); loaded = omega arith; last = omega arith },
+          record { inHand = behind o (ahead-here within (f .inByte) l) j; upTo = omega arith; longer = omega arith },
+        )
 
-    pub page-zero : getD page (c .at) 0 / 2 ^ (7 - c .bit) % 2 ≢ 1 → BitTaken (Zero d) c page
-    unfolding bitsWith PastBit
-    page-zero e = record {
-      tells = rw (page-hand, page-bit page (c .at) within (c .bit) (f .inByte) byte, ne-eqb _ _ e, p .left);
-      past = record { fits = p .fits; gone = omega (arith, p .none) };
-    }
+-- a byte more in a hand
+module _ {h g : Hand} {page : List ℕ} (l : Loads 0 h g page) where
+  pub more-size : size (held h) ≤ size (held g)
+  more-size = rw (l .held) (size-grows (held h) (bitsOf 8 (getD page (h .at) 0)))
 
--- what a bit tells of the bits at hand
-module _ {c : Cursor} {page : List ℕ} {r : Bit} (t : BitTaken r c page) where
-  bit-out : r ≡ Out → atHand c page ≡ []
-  unfolding bitsWith
-  bit-out q = sym (rw q at (t .tells))
+  pub more-wide : size (held h) ≡ 14 → size (held g) ≡ 14
+  more-wide e = omega (arith, more-size, size-most (held g))
 
-  bit-zero : (d : Cursor) → r ≡ Zero d → (atHand c page ≡ false ∷ atHand d page) × Past 1 c d page
-  unfolding bitsWith PastBit
-  bit-zero d q = (sym (rw q at (t .tells)), rw q at (t .past))
+  more-needed : Needed h → h .bits < size (held h) → Needed g
+  more-needed n k =
+      let s = more-size in
+      let m = l .more in
+      record { some = omega arith; loaded = omega (arith, l .at); last = omega arith }
 
-  pub bit-one : (d : Cursor) → r ≡ One d → (atHand c page ≡ true ∷ atHand d page) × Past 1 c d page
-  unfolding bitsWith PastBit
-  bit-one d q = (sym (rw q at (t .tells)), rw q at (t .past))
+  pub more-hand : {c : Cursor} → h .at < length page → InHand c h page → InHand c g page
+  more-hand {c} within i =
+      let x = getD page (h .at) 0 in
+      record {
+        fits = l .fits;
+        same = i .same ∙ rw (l .held, l .at, append-assoc (held h) (bitsOf 8 x) (unpack (drop (h .at + 1) page))) (ap (λ (r : List Bool). held h ++ r)
+            (page-loaded page (h .at) within 0 (omega arith)));
+      }
 
--- i bits of those at hand at c were taken, v is the number that they write, and d is past them
-pub record Along (c d : Cursor) (page : List ℕ) (i v : ℕ) : Type 0 where
-  pub taking : Taking (atHand c page) (atHand d page) i v
-  pub past : Past i c d page
+  more-reads : {c : Cursor} → h .at < length page → Reads c h page → Reads c g page
+  more-reads within r =
+      let m = l .more in
+      let a = l .at in
+      let u = r .upTo in
+      record { inHand = more-hand within (r .inHand); upTo = omega arith; longer = omega (arith, more-size, r .longer) }
 
-pub along-start : (c : Cursor) (page : List ℕ) → CursorFits c page → Along c c page 0 0
-along-start c page f = record { taking = taking-start (atHand c page); past = record { fits = f; gone = omega arith } }
+-- a hand after bytes that the symbol needed
+pub record Grown (h g : Hand) (page : List ℕ) : Type 0 where
+  pub fits : HandFits g page
+  pub needed : Needed g
+  pub reads : (c : Cursor) → Reads c h page → Reads c g page
 
-module _ {c d : Cursor} {page : List ℕ} {i v : ℕ} (a : Along c d page i v) {r : Bit} (t : BitTaken r d page) where
-  along-more : (b : Bool) (e : Cursor) (u : ℕ) → u ≡ 2 * v + cond b 1 0 → (atHand d page ≡ b ∷ atHand e page) × Past 1 d e page → Along c e page (i + 1) u
-  along-more b e u q (l, p) = record {
-    taking = taking-more (a .taking) b (atHand e page) l u q;
-    past = record { fits = p .fits; gone = omega (arith, p .gone, a .past .gone) };
-  }
+pub grown-none : {h : Hand} {page : List ℕ} → HandFits h page → Needed h → Grown h h page
+grown-none f n = record { fits = f; needed = n; reads = λ c r. r }
 
-  pub along-zero : (e : Cursor) → r ≡ Zero e → Along c e page (i + 1) (2 * v)
-  along-zero e q = along-more false e (2 * v) (omega arith) (bit-zero t e q)
+pub grown-more : {h g k : Hand} {page : List ℕ} → Grown h g page → g .at < length page → g .bits < size (held g) → Loads 0 g k page → Grown h k page
+grown-more o within few l = record { fits = l .fits; needed = more-needed l (o .needed) few; reads = λ c r. more-reads l within (o .reads c r) }
 
-  pub along-one : (e : Cursor) → r ≡ One e → Along c e page (i + 1) (2 * v + 1)
-  along-one e q = along-more true e (2 * v + 1) (omega arith) (bit-one t e q)
+-- the hand that a symbol is told from stands at most three bytes after the cursor, and at most two where bits wait and the cursor is at a byte's start
+module _ {c : Cursor} {h : Hand} {page : List ℕ} (n : Needed h) (r : Reads c h page) where
+  pub three-bytes : c .bit < 8 → h .at ≤ c .at + 3
+  three-bytes b = omega (arith, n .last, r .upTo, size-most (held h))
 
-  pub along-out : r ≡ Out → Taking (atHand c page) [] i v
-  along-out q = rw (bit-out t q) at (a .taking)
+  pub two-bytes : c .bit ≡ 0 → 1 ≤ c .waiting → h .at ≤ c .at + 2
+  two-bytes b w = omega (arith, n .last, r .upTo, size-most (held h))
 
--- bits that wait and begin a symbol are no more than N or B takes
-waits-new : (c : Cursor) (page : List ℕ) (bs : List Bool) → begins (bitsOf (c .waiting) (c .value)) ≡ true → atHand c page ≡ false ∷ bs → c .waiting ≡ 0
+-- past some of the bits that wait
+pub past-some : {c : Cursor} {page : List ℕ} → CursorFits c page → (k : ℕ) (d : Cursor) → k ≤ c .waiting → d .waiting ≡ c .waiting - k
+    → d .value ≡ c .value % 2 ^ (c .waiting - k) → d .at ≡ c .at → d .bit ≡ c .bit → Past k c d page
 unfolding atHand
-waits-new c page bs g l = sym (length-bits (c .waiting) (c .value)) ∙ begun-new _ _ bs g l
-
-waits-border : (c : Cursor) (page : List ℕ) (bs : List Bool) → begins (bitsOf (c .waiting) (c .value)) ≡ true → atHand c page ≡ true ∷ false ∷ bs
-    → c .waiting ≤ 1
-unfolding atHand
-waits-border c page bs g l = omega (arith, length-bits (c .waiting) (c .value), begun-border _ _ bs g l)
-
--- the symbol by its first bit
-module _ {c : Cursor} {page : List ℕ} {r : Bit} (t : BitTaken r c page) where
-  pub symbol-out : r ≡ Out → SymbolTaken Taken.Short c page
-  unfolding told PastSymbol takeSymbol
-  symbol-out q = record { tells = rw (bit-out t q); past = tt }
-
-  pub symbol-new : (d : Cursor) → r ≡ Zero d → SymbolTaken (Taken.Symbol New d) c page
-  unfolding told PastSymbol takeSymbol
-  symbol-new d q =
-      let (l, p) = bit-zero t d q in
-      record { tells = rw l; past = record { fits = p .fits; used = λ g. omega (arith, p .gone, waits-new c page (atHand d page) g l) } }
-
-  -- by its second bit
-  module _ (d : Cursor) (q : r ≡ One d) {s : Bit} (u : BitTaken s d page) where
-    pub symbol-out-2 : s ≡ Out → SymbolTaken Taken.Short c page
-    unfolding told PastSymbol takeSymbol
-    symbol-out-2 z = let (l, p) = bit-one t d q in record { tells = rw (l, bit-out u z); past = tt }
-
-    pub symbol-border : (e : Cursor) → s ≡ Zero e → SymbolTaken (Taken.Symbol Border e) c page
-    unfolding told PastSymbol takeSymbol
-    symbol-border e z =
-        let (l, p) = bit-one t d q in
-        let (m, o) = bit-zero u e z in
-        let k : atHand c page ≡ true ∷ false ∷ atHand e page = rw m at l in
-        record { tells = rw k; past = record { fits = o .fits; used = λ g. omega (arith, p .gone, o .gone, waits-border c page (atHand e page) g k) } }
-
-    -- by its number
-    module _ (e : Cursor) (z : s ≡ One e) {n : Number} (v : NumberTaken n e page) where
-      both-ones : atHand c page ≡ true ∷ true ∷ atHand e page
-      both-ones = let (m, o) = bit-one u e z in rw m at (bit-one t d q .0)
-
-      pub symbol-short : n ≡ Number.Short → SymbolTaken Taken.Short c page
-      unfolding told PastSymbol takeSymbol toldNumber
-      symbol-short h = record { tells = rw both-ones (rw h at (v .tells)); past = tt }
-
-      pub symbol-index : c .waiting ≤ 13 → (w : WalkNo) (f : Cursor) → n ≡ Number.Is w f → SymbolTaken (Taken.Symbol (Index w) f) c page
-      unfolding told PastSymbol takeSymbol toldNumber PastNumber
-      symbol-index few w f h =
-          let p : Past 12 e f page = rw h at (v .past) in
-          record {
-            tells = rw both-ones (rw h at (v .tells));
-            past = record { fits = p .fits; used = λ g. omega (arith, p .gone, bit-one t d q .1 .gone, bit-one u e z .1 .gone) };
-          }
-
--- the symbol by its code, where no bit waits: d is past the code's bits
-module _ (c d : Cursor) (page : List ℕ) (none : c .waiting ≡ 0) where
-  code-past : (s : Symbol) (rest : List Bool) → takeSymbol (code s ++ rest) ≡ stream.Taken.symbol s rest → atHand c page ≡ code s ++ rest
-      → PastPage (length (code s)) c d page
-      → stream.Taken.symbol s (atHand d page) ≡ takeSymbol (atHand c page)
-  code-past s rest t e p =
-      let k = length (code s) in
-      let l : drop k (atHand c page) ≡ rest = rw e (drop-append-seam (code s) rest) in
-      let q : atHand d page ≡ rest = p .left ∙ (sym (drop-drop k (c .bit) (unpack (drop (c .at) page))) ∙ rw (← page-hand c page none) l) in
-      rw (e, q) (sym t)
-
-  -- by the first fourteen bits
-  module _ (head : ℕ) (rest : List Bool) (e : atHand c page ≡ bitsOf 14 head ++ rest) where
-    begun : (j k a b : ℕ) → a < 2 ^ j → b < 2 ^ k → j + k ≡ 14 → a * 2 ^ k + b ≡ head → atHand c page ≡ bitsOf j a ++ (bitsOf k b ++ rest)
-    begun j k a b ha hb n q = rw (bits-before j k a b rest ha hb, n, q) e
-
-    pub head-new : head < 8192 → PastPage 1 c d page → SymbolTaken (Taken.Symbol New d) c page
-    unfolding told PastSymbol takeSymbol code bitsOf
-    head-new h p = record {
-      tells = code-past Symbol.new (bitsOf 13 head ++ rest) refl (begun 1 13 0 head (omega arith) h refl (omega arith)) p;
-      past = record { fits = p .fits; used = λ g. p .none };
+past-some {c} {page} f k d h waiting value at bit =
+    let j = c .waiting - k in
+    let n : k + j ≡ c .waiting = omega arith in
+    let e : drop k (bitsOf (c .waiting) (c .value)) ≡ bitsOf j (c .value % 2 ^ j) = rw n at (bits-drop k j (c .value) (rw n (f .holds))) in
+    record {
+      fits = record {
+        few = omega (arith, f .few);
+        holds = rw (waiting, value) (mod-lt (c .value) (pow-pos j));
+        within = rw at (f .within);
+        inByte = rw bit (f .inByte);
+      };
+      gone = waiting;
+      left = rw (waiting, value, at, bit, ← e)
+          (sym (drop-append-le k (bitsOf (c .waiting) (c .value)) (drop (c .bit) (unpack (drop (c .at) page)))
+          (omega (arith, length-bits (c .waiting) (c .value)))));
     }
 
-    pub head-border : 8192 ≤ head → head < 12288 → PastPage 2 c d page → SymbolTaken (Taken.Symbol Border d) c page
-    unfolding told PastSymbol takeSymbol code bitsOf
-    head-border l h p = record {
-      tells = code-past Symbol.border (bitsOf 12 (head - 8192) ++ rest) refl (begun 2 12 2 (head - 8192) (omega arith) (omega arith) refl (omega arith)) p;
-      past = record { fits = p .fits; used = λ g. p .none };
+-- past bits of a hand, those that wait among them: the bits left over are those before where it stands
+pub past-hand : {c : Cursor} {h : Hand} {page : List ℕ} → Reads c h page → (k : ℕ) (d : Cursor) → c .waiting ≤ k → k ≤ h .bits → h .bits < k + 8 → 1 ≤ h .at
+    → d .waiting ≡ 0 → d .value ≡ 0 → d .at ≡ h .at - 1 + (8 + k - h .bits) / 8 → d .bit ≡ (8 + k - h .bits) % 8 → Past k c d page
+unfolding atHand bitsOf
+past-hand {c} {h} {page} r k d more most near after waiting value at bit =
+    let to = c .bit + (k - c .waiting) in
+    let w = bitsOf (c .waiting) (c .value) in
+    let u = unpack (drop (c .at) page) in
+    let n : length w + (k - c .waiting) ≡ k = omega (arith, length-bits (c .waiting) (c .value)) in
+    let e : drop k (w ++ drop (c .bit) u) ≡ drop to u =
+    rw n at (drop-append-add w (drop (c .bit) u) (k - c .waiting)) ∙ drop-drop (k - c .waiting) (c .bit) u in
+    let a : d .at ≡ c .at + to / 8 = omega (arith, r .upTo) in
+    let b : d .bit ≡ to % 8 = omega (arith, r .upTo) in
+    record {
+      fits = record { few = omega arith; holds = rw (waiting, value) (omega arith); within = omega (arith, r .inHand .fits .within); inByte = omega arith };
+      gone = omega arith;
+      left = rw (waiting, a, b, e) (page-moved page (c .at) to);
     }
 
-    pub head-index : 12288 ≤ head → head < 16384 → PastPage 14 c d page → SymbolTaken (Taken.Symbol (Index (record { 0 = head - 12288 })) d) c page
-    unfolding told PastSymbol code bitsOf
-    head-index l h p =
-        let w = head - 12288 in
-        let back = taken-code (Symbol.index w) rest (record { fits = λ v q. let z : w ≡ v = cc in omega arith }) in
-        record {
-          tells = code-past (Symbol.index w) rest back (begun 2 12 3 w (omega arith) (omega arith) refl (omega arith)) (rw (length-bits 12 w) p);
-          past = record { fits = p .fits; used = λ g. p .none };
-        }
+-- what the first bits at hand tell
+module _ (c : Cursor) (page : List ℕ) (bs ys : List Bool) (same : atHand c page ≡ bs ++ ys) where
+  -- too few, and no more
+  told-short : length bs < size bs → ys ≡ [] → SymbolTaken Taken.Short c page
+  unfolding told PastSymbol
+  told-short l e = record { tells = sym (rw (same, e, append-nil bs) (size-short bs l)); past = tt }
+
+  -- a symbol of n bits, with the cursor d past it; the bits that wait are fewer if they begin a symbol
+  module _ (n : ℕ) (e : size bs ≡ n) (l : n ≤ length bs) where
+    waits-fewer : begins (bitsOf (c .waiting) (c .value)) ≡ true → c .waiting < n
+    unfolding atHand
+    waits-fewer g =
+        let q = begins-size (bitsOf (c .waiting) (c .value)) (drop (c .bit) (unpack (drop (c .at) page))) g in
+        omega (arith, q, ap size same, size-more bs ys (omega arith), length-bits (c .waiting) (c .value))
+
+    pub told-symbol : (d : Cursor) (s : Symbol) → takeSymbol (bs ++ ys) ≡ stream.Taken.symbol (toldSymbol s) (drop n (bs ++ ys)) → Past n c d page
+        → SymbolTaken (Taken.Symbol s d) c page
+    unfolding told PastSymbol
+    told-symbol d s t p = record { tells = rw (p .left, same) (sym t); past = record { fits = p .fits; used = λ g. omega (arith, p .gone, waits-fewer g) } }
+
+-- the same of the bits in a hand
+module _ {c : Cursor} {h : Hand} {page : List ℕ} (i : InHand c h page) where
+  pub all-held : length page ≤ h .at → atHand c page ≡ held h
+  unfolding unpack
+  all-held e = i .same ∙ rw (drop-of-length-le page e) (append-nil (held h))
+
+  pub held-hand : h .bits ≤ length (atHand c page)
+  held-hand = rw (i .same) (simp length-append (omega (arith, length-held (i .fits))))
+
+  pub hand-short : h .bits < size (held h) → length page ≤ h .at → SymbolTaken Taken.Short c page
+  unfolding unpack
+  hand-short l e = told-short c page (held h) (unpack (drop (h .at) page)) (i .same) (omega (arith, length-held (i .fits))) (rw (drop-of-length-le page e))
+
+-- the same of the bits that wait: they hold a whole symbol, or the page has none to add
+module _ {c : Cursor} {page : List ℕ} (f : CursorFits c page) where
+  pub waits-none : whole (bitsOf (c .waiting) (c .value)) ≢ 1 → whole (bitsOf (c .waiting) (c .value)) ≢ 2 → c .waiting < size (bitsOf (c .waiting) (c .value))
+  waits-none h k =
+      let ws = bitsOf (c .waiting) (c .value) in
+      let n = length-bits (c .waiting) (c .value) in
+      omega (arith, whole-none ws (omega (arith, f .few)) h k)
+
+  pub waits-short : c .waiting < size (bitsOf (c .waiting) (c .value)) → length page ≤ c .at → SymbolTaken Taken.Short c page
+  unfolding atHand unpack
+  waits-short l e =
+      let ws = bitsOf (c .waiting) (c .value) in
+      told-short c page ws (drop (c .bit) (unpack (drop (c .at) page))) refl (omega (arith, length-bits (c .waiting) (c .value)))
+      (rw (drop-of-length-le page e) (drop-nil (c .bit)))
+
+  pub waits-new : (d : Cursor) → whole (bitsOf (c .waiting) (c .value)) ≡ 1 → Past 1 c d page → SymbolTaken (Taken.Symbol New d) c page
+  unfolding atHand
+  waits-new d e p =
+      let ws = bitsOf (c .waiting) (c .value) in
+      let ys = drop (c .bit) (unpack (drop (c .at) page)) in
+      let (s, l) = whole-new ws e in
+      told-symbol c page ws ys refl 1 s l d New (size-new ws ys s l) p
+
+  pub waits-border : (d : Cursor) → whole (bitsOf (c .waiting) (c .value)) ≡ 2 → Past 2 c d page → SymbolTaken (Taken.Symbol Border d) c page
+  unfolding atHand
+  waits-border d e p =
+      let ws = bitsOf (c .waiting) (c .value) in
+      let ys = drop (c .bit) (unpack (drop (c .at) page)) in
+      let (s, l) = whole-border ws e in
+      told-symbol c page ws ys refl 2 s l d Border (size-border ws ys s l) p

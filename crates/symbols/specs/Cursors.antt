@@ -1,20 +1,14 @@
--- What a cursor stands for: the bits at hand, and what taking a bit, a number or a symbol from them tells.
+-- What a cursor stands for: the bits at hand, and what taking a symbol from them tells.
 use Prim.Native.Nat.{ℕ, _+_, _-_, _^_, _≤_, _<_}
 use mathlib.Core.Path.{_≡_}
-use mathlib.Core.Bool.{Bool, true, false}
-use mathlib.Core.List.{List, [], _∷_, _++_}
+use mathlib.Core.Bool.{Bool, true}
+use mathlib.Core.List.{List, _++_}
 use lib.ListN.{length, drop}
-use lib.Dec.{ltb}
-use Rattle.rules.specs.Walk.{Symbol}
 use Rattle.rules.specs.Stream.{bitsOf, unpack}
 use Rattle.rules.specs.Stream as stream
 use Rattle.rules.specs.Session.{begins}
 use Rattle.rules.specs.Symbols.{toldSymbol}
 use Rattle.symbols.specs.declared.Cursor.{Cursor}
-use Rattle.symbols.specs.declared.Bit.{Bit}
-use Rattle.symbols.specs.declared.Bit.the-variants as bit
-use Rattle.symbols.specs.declared.Number.{Number}
-use Rattle.symbols.specs.declared.Number.the-variants as number
 use Rattle.symbols.specs.declared.Taken.{Taken}
 use Rattle.symbols.specs.declared.Taken.the-variants as taken
 
@@ -29,48 +23,11 @@ pub record CursorFits (c : Cursor) (page : List ℕ) : Type 0 where
   pub within : c .at ≤ length page
   pub inByte : c .bit < 8
 
--- the cursor d past k bits of the page from c fits, no bit waits, and the page's bits after those are at hand
-pub record PastPage (k : ℕ) (c d : Cursor) (page : List ℕ) : Type 0 where
-  pub fits : CursorFits d page
-  pub none : d .waiting ≡ 0
-  pub left : atHand d page ≡ drop (c .bit + k) (unpack (drop (c .at) page))
-
--- the bits that a bit was taken from
-unfoldable pub bitsWith : Bit → List ℕ → List Bool
-bitsWith bit.Out page = []
-bitsWith (bit.Zero d) page = false ∷ atHand d page
-bitsWith (bit.One d) page = true ∷ atHand d page
-
--- the cursor d past k bits from c fits, and of the bits that waited k are gone
+-- the cursor d past k bits from c fits, of the bits that waited k are gone, and those after the k are at hand
 pub record Past (k : ℕ) (c d : Cursor) (page : List ℕ) : Type 0 where
   pub fits : CursorFits d page
   pub gone : d .waiting ≡ c .waiting - k
-
--- the cursor past a bit, if there is one
-unfoldable pub PastBit : Bit → Cursor → List ℕ → Type 0
-PastBit bit.Out c page = Unit
-PastBit (bit.Zero d) c page = Past 1 c d page
-PastBit (bit.One d) c page = Past 1 c d page
-
--- a bit was taken from the bits at hand
-pub record BitTaken (r : Bit) (c : Cursor) (page : List ℕ) : Type 0 where
-  pub tells : bitsWith r page ≡ atHand c page
-  pub past : PastBit r c page
-
--- a number told, as the symbol w that it ends
-unfoldable pub toldNumber : Number → List ℕ → stream.Taken
-toldNumber number.Short page = stream.Taken.short
-toldNumber (number.Is w d) page = stream.Taken.symbol (Symbol.index (w .0)) (atHand d page)
-
--- the cursor past a number, if there is one
-unfoldable pub PastNumber : Number → Cursor → List ℕ → Type 0
-PastNumber number.Short c page = Unit
-PastNumber (number.Is w d) c page = Past 12 c d page
-
--- a number was taken from the bits at hand
-pub record NumberTaken (r : Number) (c : Cursor) (page : List ℕ) : Type 0 where
-  pub tells : toldNumber r page ≡ stream.takeIndex (ltb (length (atHand c page)) 12) (atHand c page)
-  pub past : PastNumber r c page
+  pub left : atHand d page ≡ drop k (atHand c page)
 
 -- a symbol told, and the bits at hand after it
 unfoldable pub told : Taken → List ℕ → stream.Taken

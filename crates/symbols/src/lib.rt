@@ -1,13 +1,16 @@
-// Bits and symbols: a cursor over the bits that wait and a page's bits, and taking one symbol: from three bytes at
-// once, or bit by bit where bits wait or the page ends.
+// Bits and symbols: a cursor over the bits that wait and a page's bits, and taking one symbol. A look at the page may
+// be slow, so a symbol loads each byte of the page that it lies in once, and no other byte: `Hand::loaded` alone looks
+// at the page, at one byte, and is called only where the symbol has more bits than are at hand.
 use rules::Symbol;
 use rules::WalkNo;
 ghost use mathlib.Core.Path.{_≡_};
 ghost use mathlib.Core.List.{List};
-ghost use Prim.Native.Nat.{ℕ, _+_, _/_, _≤_, _<_, _^_};
+ghost use Prim.Native.Nat.{ℕ, _+_, _≤_, _<_, _^_};
 ghost use lib.ListN.{length};
-ghost use Rattle.rules.specs.Stream.{value};
-ghost use Rattle.symbols.specs.Cursors.{atHand, CursorFits, PastPage, BitTaken, NumberTaken, SymbolTaken};
+ghost use Rattle.rules.specs.Stream.{bitsOf, value};
+ghost use Rattle.symbols.specs.Cursors.{atHand, CursorFits, Past, SymbolTaken};
+ghost use Rattle.symbols.specs.Hands.{size, whole, none, held, HandFits, Loads, Joins, Holds, InHand};
+ghost use Rattle.symbols.specs.Hands.{Needed, Reads, Starts};
 
 // Where taking bits stands: bits that wait from before the page, then the page from a byte and a bit of it on.
 pub struct Cursor {
@@ -17,17 +20,21 @@ pub struct Cursor {
     pub bit: u32,
 }
 
-// The next bit, with the cursor past it, or that bits ran out.
-pub enum Bit {
-    Out,
-    Zero(Cursor),
-    One(Cursor),
+// The first bits at hand: how many, and the number of 24 bits that they and zeros after them write. Those after them
+// are the page's from a byte on.
+pub struct Hand {
+    pub bits: u32,
+    pub head: u32,
+    pub at: usize,
 }
 
-// A number of twelve bits, or that bits ran out.
-pub enum Number {
-    Short,
-    Is(WalkNo, Cursor),
+// How a symbol begins: bits ran out, or those that wait hold it whole, with the cursor past it, or they and those of
+// the cursor's byte are in a hand.
+pub enum First {
+    Out,
+    New(Cursor),
+    Border(Cursor),
+    Is(Hand),
 }
 
 // The next symbol, with the cursor past it, or that bits ran out.
@@ -42,144 +49,197 @@ pub struct Waiting {
     pub value: u16,
 }
 
-impl Cursor {
-    // The cursor past so many bits more of the page.
-    pub fn moved(self, bits: u32) -> Cursor
-        requires { ⌜ (self .bit + bits < 2 ^ 32) × (self .at + (self .bit + bits) / 8 < 2 ^ 64) ⌝ }
-        ensures { λ r. ⌜ ((page : List ℕ) → self .at + (self .bit + bits) / 8 ≤ length page
-            → PastPage bits self r page) ⌝ }
+impl Hand {
+    // How many bits the symbol has, as far as those at hand tell: N has 1, B 2 and w 14.
+    pub fn size(self) -> u32
+        requires { ⌜ self .head < 2 ^ 24 ⌝ }
+        ensures { λ r. ⌜ r ≡ size (bitsOf 24 (self .head)) ⌝ }
     {
-        let to = self.bit + bits;
+        // the first of 24 bits weighs 8388608, the second 4194304
+        let head = self.head;
+        if head < 8388608 {
+            return 1;
+        }
+        if head < 12582912 {
+            return 2;
+        }
+        14
+    }
+
+    // With the page's next byte, from one of its bits on. This is the one look at the page.
+    pub fn loaded(self, bit: u32, page: &[u8]) -> Hand
+        requires { ⌜ HandFits self (now page) × (self .bits ≤ 13) × (self .at < length (now page)) × (bit < 8) ⌝ }
+        ensures { λ r. ⌜ Loads bit self r (now (page .entry)) ⌝ }
+    {
+        let at = self.at;
+        let part = (page[at] << bit) as u32;
+        Hand {
+            bits: self.bits + (8 - bit),
+            head: self.head + (part << (16 - self.bits)),
+            at: at + 1,
+        }
+    }
+
+    // These bits, then those of another hand.
+    pub fn then(self, next: Hand) -> Hand
+        requires { ⌜ (self .bits + next .bits ≤ 24) × (self .head < 2 ^ 24) × (next .head < 2 ^ 24) ⌝ }
+        ensures { λ r. ⌜ ((page : List ℕ) → HandFits self page → HandFits next page → Joins self next r page) ⌝ }
+    {
+        Hand {
+            bits: self.bits + next.bits,
+            head: self.head + (next.head >> self.bits),
+            at: next.at,
+        }
+    }
+
+    // The cursor past so many of the bits: those left over are the last of the byte that was loaded last.
+    pub fn past(self, bits: u32) -> Cursor
+        requires { ⌜ (bits ≤ self .bits) × (self .bits < bits + 8) × (self .bits ≤ 24) × (1 ≤ self .at) ⌝ }
+        ensures { λ r. ⌜ ((c : Cursor) (page : List ℕ) → Reads c self page → c .waiting ≤ bits → Past bits c r page) ⌝ }
+    {
+        let to = 8 + bits - self.bits;
         Cursor {
             waiting: 0,
             value: 0,
-            at: self.at + (to / 8) as usize,
+            at: self.at - 1 + (to / 8) as usize,
             bit: to % 8,
         }
     }
 
-    // The next of the bits that wait.
-    pub fn waiting_bit(self) -> Bit
-        requires { ⌜ (0 < self .waiting) × (self .waiting ≤ 13) ⌝ }
-        ensures { λ r. ⌜ ((page : List ℕ) → CursorFits self page → BitTaken r self page) ⌝ }
+    // The w that the bits begin with. Two of them are at hand, so two bytes more are enough.
+    pub fn take_index(self, page: &[u8]) -> Taken
+        requires { ⌜ HandFits self (now page) × Needed self × (size (held self) ≡ 14) ⌝ }
+        ensures { λ r. ⌜ ((c : Cursor) → Reads c self (now (page .entry)) → SymbolTaken r c (now (page .entry))) ⌝ }
     {
-        let left = self.waiting - 1;
-        let half = 1u16 << left;
-        let value = self.value;
+        let mut hand = self;
+        if self.bits < 14 {
+            if page.len() <= self.at {
+                return Taken::Short;
+            }
+            hand = self.loaded(0, page);
+        }
+        if hand.bits < 14 {
+            if page.len() <= hand.at {
+                return Taken::Short;
+            }
+            hand = hand.loaded(0, page);
+        }
+        // before the last ten of 24 bits stand 11, which weigh 12288, and the walk number
+        let w = WalkNo((hand.head / 1024 - 12288) as u16);
+        Taken::Symbol(Symbol::Index(w), hand.past(14))
+    }
+
+    // The symbol that the bits begin with. A byte more is loaded only where the symbol has bits past those at hand.
+    pub fn take(self, page: &[u8]) -> Taken
+        requires { ⌜ HandFits self (now page) × Needed self ⌝ }
+        ensures { λ r. ⌜ ((c : Cursor) → Reads c self (now (page .entry)) → SymbolTaken r c (now (page .entry))) ⌝ }
+    {
+        if self.size() == 1 {
+            return Taken::Symbol(Symbol::New, self.past(1));
+        }
+        let mut hand = self;
+        if self.bits < 2 {
+            if page.len() <= self.at {
+                return Taken::Short;
+            }
+            hand = self.loaded(0, page);
+        }
+        if hand.size() == 2 {
+            return Taken::Symbol(Symbol::Border, hand.past(2));
+        }
+        hand.take_index(page)
+    }
+}
+
+impl Cursor {
+    // The bits of the byte that the cursor is in, from its bit on.
+    pub fn here(self, page: &[u8]) -> Hand
+        requires { ⌜ (self .at < length (now page)) × (self .bit < 8) ⌝ }
+        ensures { λ r. ⌜ Loads (self .bit) (none (self .at)) r (now (page .entry)) ⌝ }
+    {
         let at = self.at;
         let bit = self.bit;
-        if half <= value {
-            Bit::One(Cursor {
-                waiting: left,
-                value: value - half,
-                at,
-                bit,
-            })
-        } else {
-            Bit::Zero(Cursor {
-                waiting: left,
-                value,
-                at,
-                bit,
-            })
+        let none = Hand {
+            bits: 0,
+            head: 0,
+            at,
+        };
+        none.loaded(bit, page)
+    }
+
+    // The bits that wait.
+    pub fn waits(self) -> Hand
+        requires { ⌜ self .waiting ≤ 13 ⌝ }
+        ensures { λ r. ⌜ ((page : List ℕ) → CursorFits self page → Holds self r page) ⌝ }
+    {
+        let waiting = self.waiting as u32;
+        let at = self.at;
+        Hand {
+            bits: waiting,
+            head: (self.value as u32) << (24 - waiting),
+            at,
         }
     }
 
-    // The next bit: those that wait come first.
-    pub fn next_bit(self, page: &[u8]) -> Bit
-        requires { ⌜ CursorFits self (now page) ⌝ }
-        ensures { λ r. ⌜ BitTaken r self (now (page .entry)) ⌝ }
+    // How many of the bits that wait are a whole symbol, if they hold one.
+    pub fn whole(self) -> u16
+        requires { ⌜ (1 ≤ self .waiting) × (self .waiting ≤ 13) × (self .value < 2 ^ self .waiting) ⌝ }
+        ensures { λ r. ⌜ r ≡ whole (bitsOf (self .waiting) (self .value)) ⌝ }
     {
-        if 0 < self.waiting {
-            return self.waiting_bit();
+        let waiting = self.waiting;
+        let value = self.value;
+        if (value >> (waiting - 1)) % 2 == 0 {
+            return 1;
         }
+        if 1 < waiting {
+            if (value >> (waiting - 2)) % 2 == 0 {
+                return 2;
+            }
+        }
+        0
+    }
+
+    // The cursor past so many of the bits that wait.
+    pub fn fewer(self, bits: u16) -> Cursor
+        requires { ⌜ (bits ≤ self .waiting) × (self .waiting ≤ 13) ⌝ }
+        ensures { λ r. ⌜ ((page : List ℕ) → CursorFits self page → Past bits self r page) ⌝ }
+    {
+        let left = self.waiting - bits;
         let at = self.at;
+        let bit = self.bit;
+        Cursor {
+            waiting: left,
+            value: self.value % (1u16 << left),
+            at,
+            bit,
+        }
+    }
+
+    // How the next symbol begins. The cursor's byte is loaded only where the bits that wait hold no whole symbol.
+    pub fn first(self, page: &[u8]) -> First
+        requires { ⌜ CursorFits self (now page) ⌝ }
+        ensures { λ r. ⌜ Starts r self (now (page .entry)) ⌝ }
+    {
+        let at = self.at;
+        if self.waiting == 0 {
+            if page.len() <= at {
+                return First::Out;
+            }
+            return First::Is(self.here(page));
+        }
+        let whole = self.whole();
+        if whole == 1 {
+            return First::New(self.fewer(1));
+        }
+        if whole == 2 {
+            return First::Border(self.fewer(2));
+        }
         if page.len() <= at {
-            return Bit::Out;
+            return First::Out;
         }
-        let shift = 7 - self.bit;
-        let byte = page[at];
-        if (byte >> shift) % 2 == 1 {
-            Bit::One(self.moved(1))
-        } else {
-            Bit::Zero(self.moved(1))
-        }
-    }
-
-    // A number of twelve bits.
-    pub fn take_number(self, page: &[u8]) -> Number
-        requires { ⌜ CursorFits self (now page) ⌝ }
-        ensures { λ r. ⌜ NumberTaken r self (now (page .entry)) ⌝ }
-    {
-        let mut c = self;
-        let mut v: u16 = 0;
-        let mut i: u16 = 0;
-        while i < 12 {
-            match c.next_bit(page) {
-                Bit::Out => {
-                    return Number::Short;
-                }
-                Bit::Zero(d) => {
-                    c = d;
-                    v = 2 * v;
-                }
-                Bit::One(d) => {
-                    c = d;
-                    v = 2 * v + 1;
-                }
-            }
-            i += 1;
-        }
-        Number::Is(WalkNo(v), c)
-    }
-
-    // The symbol that the bits begin with, bit by bit.
-    pub fn next_symbol(self, page: &[u8]) -> Taken
-        requires { ⌜ CursorFits self (now page) ⌝ }
-        ensures { λ r. ⌜ SymbolTaken r self (now (page .entry)) ⌝ }
-    {
-        let first = self.next_bit(page);
-        let c = match first {
-            Bit::Out => {
-                return Taken::Short;
-            }
-            Bit::Zero(d) => {
-                return Taken::Symbol(Symbol::New, d);
-            }
-            Bit::One(d) => d,
-        };
-        let second = c.next_bit(page);
-        let d = match second {
-            Bit::Out => {
-                return Taken::Short;
-            }
-            Bit::Zero(e) => {
-                return Taken::Symbol(Symbol::Border, e);
-            }
-            Bit::One(e) => e,
-        };
-        match d.take_number(page) {
-            Number::Short => Taken::Short,
-            Number::Is(w, e) => Taken::Symbol(Symbol::Index(w), e),
-        }
-    }
-
-    // The symbol that the page's bits begin with: fourteen bits from the cursor on are within three bytes.
-    pub fn whole_symbol(self, page: &[u8]) -> Taken
-        requires { ⌜ CursorFits self (now page) × (self .waiting ≡ 0) × (self .at + 2 < length (now page)) ⌝ }
-        ensures { λ r. ⌜ SymbolTaken r self (now (page .entry)) ⌝ }
-    {
-        let at = self.at;
-        let three = (page[at] as u32 * 256 + page[at + 1] as u32) * 256 + page[at + 2] as u32;
-        let head = (three >> (10 - self.bit)) % 16384;
-        if head < 8192 {
-            return Taken::Symbol(Symbol::New, self.moved(1));
-        }
-        if head < 12288 {
-            return Taken::Symbol(Symbol::Border, self.moved(2));
-        }
-        let w = WalkNo((head - 12288) as u16);
-        Taken::Symbol(Symbol::Index(w), self.moved(14))
+        let waits = self.waits();
+        let here = self.here(page);
+        First::Is(waits.then(here))
     }
 
     // The symbol that the bits begin with.
@@ -187,12 +247,32 @@ impl Cursor {
         requires { ⌜ CursorFits self (now page) ⌝ }
         ensures { λ r. ⌜ SymbolTaken r self (now (page .entry)) ⌝ }
     {
-        if self.waiting == 0 {
-            if self.at + 2 < page.len() {
-                return self.whole_symbol(page);
-            }
+        match self.first(page) {
+            First::Out => Taken::Short,
+            First::New(c) => Taken::Symbol(Symbol::New, c),
+            First::Border(c) => Taken::Symbol(Symbol::Border, c),
+            First::Is(hand) => hand.take(page),
         }
-        self.next_symbol(page)
+    }
+
+    // The bits that wait and those of the cursor's byte, if the page has it.
+    pub fn hand(self, page: &[u8]) -> Hand
+        requires { ⌜ CursorFits self (now page) ⌝ }
+        ensures { λ r. ⌜ InHand self r (now (page .entry)) ⌝ }
+    {
+        let at = self.at;
+        let mut hand = Hand {
+            bits: 0,
+            head: 0,
+            at,
+        };
+        if at < page.len() {
+            hand = self.here(page);
+        }
+        if self.waiting != 0 {
+            return self.waits().then(hand);
+        }
+        hand
     }
 
     // All bits that are left, of which there are at most thirteen.
@@ -201,25 +281,14 @@ impl Cursor {
         ensures { λ r. let bits = atHand self (now (page .entry)) in
             ⌜ (r .bits ≡ length bits) × (r .value ≡ value bits) ⌝ }
     {
-        let mut c = self;
-        let mut bits: u16 = 0;
-        let mut value: u16 = 0;
-        while bits < 14 {
-            match c.next_bit(page) {
-                Bit::Out => {
-                    return Waiting { bits, value };
-                }
-                Bit::Zero(d) => {
-                    c = d;
-                    value = 2 * value;
-                }
-                Bit::One(d) => {
-                    c = d;
-                    value = 2 * value + 1;
-                }
-            }
-            bits += 1;
+        let mut hand = self.hand(page);
+        while hand.at < page.len() {
+            hand = hand.loaded(0, page);
         }
-        Waiting { bits, value }
+        let bits = hand.bits;
+        Waiting {
+            bits: bits as u16,
+            value: (hand.head >> (24 - bits)) as u16,
+        }
     }
 }

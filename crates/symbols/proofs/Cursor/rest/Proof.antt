@@ -1,63 +1,59 @@
--- `symbols::Cursor::rest` meets its contract: value is the number that the bits taken so far write, until none is left. Assumes nothing.
+-- `symbols::Cursor::rest` meets its contract: the hand holds the first of the bits at hand, and at the page's end all. Assumes nothing.
 use Prim.Native.Nat.{_-_}
-use mathlib.Core.Logic.{⊎-elim}
+use mathlib.Core.Path.{ap, sym, _∙_}
 use native.Mathlib.Omega.{arith}
 use borrow.Author.Needs.{needs}
-use Rattle.symbols.proofs.Bits.{taking-small, taking-end}
-use Rattle.symbols.proofs.Cursors.{Along, along-start, along-zero, along-one, along-out}
+use lib.ListN.{length}
+use Rattle.rules.specs.Stream.{value}
+use Rattle.symbols.specs.declared.Cursor.{Cursor}
+use Rattle.symbols.specs.Hands.{InHand}
+use Rattle.symbols.proofs.Hands.{length-held, head-value, head-few}
+use Rattle.symbols.proofs.Cursors.{more-hand, held-hand, all-held}
 use Rattle.symbols.proofs.Cursor.rest.Statement.{statement}
 use Rattle.symbols.proofs.Cursor.rest.Tie as tie
 
 abbrev Inv-loop : tie.InvT-loop
-Inv-loop page c₀ bits₀ value₀ c bits value = Along c₀ c page bits value
+Inv-loop page hand₀ hand = (c : Cursor) → InHand c hand₀ page → InHand c hand page
 
 abbrev μ-loop : tie.MeasureT-loop
-μ-loop page c₀ bits₀ value₀ c bits value = 14 - bits
+μ-loop page hand₀ hand = length page - hand .at
+
+-- the bits in the hand
+first : (c : tie.At-loop Inv-loop μ-loop) → let a = c .before .before .before .args in InHand (a .self) (c .loop .hand) (a .page .now)
+first c = c .loop .inv _ (c .before .hand .ensures)
+
+hand-requires : tie.Need-hand-requires Inv-loop μ-loop
+hand-requires c κs = search needs
 
 loop-holds : tie.Need-loop-holds Inv-loop μ-loop
-loop-holds c = along-start _ _ (c .before .pre .0)
+loop-holds c = λ d i. i
 
-next-bit-requires : tie.Need-next-bit-requires Inv-loop μ-loop
-next-bit-requires c κs = c .before .loop .inv .past .fits
-
-enum-told : tie.Need-enum-told Inv-loop μ-loop
-enum-told c = search needs
-
-returns : tie.Need-returns Inv-loop μ-loop
-returns c = taking-end (along-out (c .before .before .before .before .loop .inv) (c .before .before .next-bit .ensures) (c .enum-told .given .1))
-
-enum-known-d : tie.Need-enum-known-d Inv-loop μ-loop
-enum-known-d c = search needs
-
-mul-value : tie.Need-mul-value Inv-loop μ-loop
-mul-value c = omega (arith, taking-small (c .before .before .before .before .before .loop .inv .taking) (omega arith))
-
-enum-known-d-2 : tie.Need-enum-known-d-2 Inv-loop μ-loop
-enum-known-d-2 c = search needs
-
-mul-value-2 : tie.Need-mul-value-2 Inv-loop μ-loop
-mul-value-2 c = omega (arith, taking-small (c .before .before .before .before .before .loop .inv .taking) (omega arith))
-
-add-value : tie.Need-add-value Inv-loop μ-loop
-add-value c = omega (arith, taking-small (c .before .before .before .before .before .loop .inv .taking) (omega arith))
-
-add-bits : tie.Need-add-bits Inv-loop μ-loop
-add-bits c = search needs
+loaded-requires : tie.Need-loaded-requires Inv-loop μ-loop
+loaded-requires c κs = let i = first (c .before .before) in (i .fits, omega (arith, held-hand i), c .if1 .taken, omega arith)
 
 loop-less : tie.Need-loop-less Inv-loop μ-loop
-loop-less c = search needs
+loop-less c = omega (arith, c .loaded .ensures .at)
 
 loop-again : tie.Need-loop-again Inv-loop μ-loop
-loop-again c =
-    let a = c .before .before .before .loop .inv in
-    let t = c .before .next-bit .ensures in
-    ⊎-elim
-    (λ w. rw (w .3, w .4) (along-zero a t _ (w .1 .given .1)))
-    (λ w. rw (w .3, w .4) (along-one a t _ (w .1 .given .1)))
-    (c .match .came)
+loop-again c = λ d i. more-hand (c .loaded .ensures) (c .before .if1 .taken) (c .before .before .before .loop .inv d i)
 
-returns-2 : tie.Need-returns-2 Inv-loop μ-loop
-returns-2 c = absurd (omega (arith, c .before .loop .inv .taking .upTo, c .before .before .before .pre .1))
+cast-t7 : tie.Need-cast-t7 Inv-loop μ-loop
+cast-t7 c = omega (arith, first (c .before .before) .fits .few)
+
+sub-t8 : tie.Need-sub-t8 Inv-loop μ-loop
+sub-t8 c = first (c .before .before) .fits .few
+
+shr-t9 : tie.Need-shr-t9 Inv-loop μ-loop
+shr-t9 c = search needs
+
+cast-t10 : tie.Need-cast-t10 Inv-loop μ-loop
+cast-t10 c = let i = first (c .before .before .before) in omega (arith, head-few (i .fits) (omega (arith, held-hand i)))
+
+returns : tie.Need-returns Inv-loop μ-loop
+returns c =
+    let i = first (c .before .before .before) in
+    let e = all-held i (c .before .if1 .left) in
+    (sym (ap length e ∙ length-held (i .fits)), sym (ap value e ∙ sym (head-value (i .fits))))
 
 pub rest-spec : {M : Type 1} → statement M
 rest-spec =
@@ -65,16 +61,13 @@ rest-spec =
     (tie.spec
     Inv-loop
     μ-loop
+    hand-requires
     loop-holds
-    next-bit-requires
-    enum-told
-    returns
-    enum-known-d
-    mul-value
-    enum-known-d-2
-    mul-value-2
-    add-value
-    add-bits
+    loaded-requires
     loop-less
     loop-again
-    returns-2)
+    cast-t7
+    sub-t8
+    shr-t9
+    cast-t10
+    returns)

@@ -1,0 +1,116 @@
+-- `symbols::Cursor::first` meets its contract: by whether bits wait, whether they hold a whole symbol, and whether the page goes on. Assumes nothing.
+use mathlib.Core.Path.{sym, _∙_}
+use native.Mathlib.Omega.{arith}
+use borrow.Author.Needs.{needs}
+use Rattle.rules.specs.Stream.{bitsOf}
+use Rattle.rules.proofs.Codes.{length-bits}
+use Rattle.symbols.specs.Hands.{Holds, Starts}
+use Rattle.symbols.proofs.Bits.{size-pos, whole-border}
+use Rattle.symbols.proofs.Hands.{none-fits, head-small}
+use Rattle.symbols.proofs.Cursors.{ahead-end, alone, here-starts, behind-starts, hand-short, waits-none, waits-short, waits-new, waits-border}
+use Rattle.symbols.proofs.Cursor.first.Statement.{statement}
+use Rattle.symbols.proofs.Cursor.first.Tie as tie
+
+returns : tie.Need-returns
+unfolding Starts
+returns c =
+    let s = c .before .before .before .before in
+    let a = s .args in
+    let e = c .if2 .taken in
+    hand-short (alone (a .self) (c .before .if1 .taken) (none-fits (a .self .at) (a .page .now) (s .pre .within)) (ahead-end (a .self) (a .page .now) e))
+    (size-pos _) e
+
+here-requires : tie.Need-here-requires
+here-requires c κs = search needs
+
+returns-2 : tie.Need-returns-2
+unfolding Starts
+returns-2 c =
+    let s = c .before .before .before .before .before in
+    here-starts (s .args .self) (s .pre) (c .before .if2 .left) (c .here .ensures) (c .before .before .if1 .taken)
+
+whole-requires : tie.Need-whole-requires
+whole-requires c κs = search needs
+
+fewer-requires : tie.Need-fewer-requires
+fewer-requires c κs = search needs
+
+returns-3 : tie.Need-returns-3
+unfolding Starts
+returns-3 c =
+    let f = c .before .before .before .before .before .before .pre in
+    waits-new f _ (sym (c .before .before .whole .ensures) ∙ c .before .if3 .taken) (c .fewer .ensures _ f)
+
+fewer-requires-2 : tie.Need-fewer-requires-2
+fewer-requires-2 c κs =
+    let s = c .before .before .before .before .before .before in
+    let a = s .args .self in
+    let e = sym (c .before .before .whole .ensures) ∙ c .if4 .taken in
+    (omega (arith, whole-border (bitsOf (a .waiting) (a .value)) e .1, length-bits (a .waiting) (a .value)), s .pre .few)
+
+returns-4 : tie.Need-returns-4
+unfolding Starts
+returns-4 c =
+    let f = c .before .before .before .before .before .before .before .pre in
+    waits-border f _ (sym (c .before .before .before .whole .ensures) ∙ c .before .if4 .taken) (c .fewer2 .ensures _ f)
+
+returns-5 : tie.Need-returns-5
+unfolding Starts
+returns-5 c =
+    let w = c .before .before .before in
+    let f = w .before .before .before .before .pre in
+    let e = w .whole .ensures in
+    waits-short f (waits-none f (λ q. c .before .before .if3 .left (e ∙ q)) (λ q. c .before .if4 .left (e ∙ q))) (c .if5 .taken)
+
+waits-requires : tie.Need-waits-requires
+waits-requires c κs = search needs
+
+here-requires-2 : tie.Need-here-requires-2
+here-requires-2 c κs = search needs
+
+-- the bits that wait and those of the cursor's byte, apart
+waiting : (c : tie.After-waits) → let a = c .before .before .before .before .before .before .before .before .args in
+    Holds (a .self) (c .waits .result) (a .page .now)
+waiting c = c .waits .ensures _ (c .before .before .before .before .before .before .before .before .pre)
+
+then-requires : tie.Need-then-requires
+then-requires c κs =
+    let o = waiting (c .before) in
+    let l = c .here2 .ensures in
+    let few = c .before .before .before .before .before .before .before .before .before .pre .few in
+    let m = o .bits in
+    let n = l .more in
+    let p = head-small (o .fits) in
+    let q = head-small (l .fits) in
+    (omega arith, omega arith, omega arith)
+
+returns-6 : tie.Need-returns-6
+unfolding Starts
+returns-6 c =
+    let h = c .before in
+    let w = h .before .before .before .before .before in
+    let s = w .before .before .before .before in
+    let f = s .pre in
+    let e = w .whole .ensures in
+    let o = waiting (h .before) in
+    let l = h .here2 .ensures in
+    let n = waits-none f (λ q. h .before .before .before .before .if3 .left (e ∙ q)) (λ q. h .before .before .before .if4 .left (e ∙ q)) in
+    behind-starts (s .args .self) f (h .before .before .if5 .left) l n o (c .then .ensures _ (o .fits) (l .fits))
+
+pub first-spec : {M : Type 1} → statement M
+first-spec =
+    tie.close
+    (tie.spec
+    returns
+    here-requires
+    returns-2
+    whole-requires
+    fewer-requires
+    returns-3
+    fewer-requires-2
+    returns-4
+    returns-5
+    waits-requires
+    here-requires-2
+    then-requires
+    returns-6)

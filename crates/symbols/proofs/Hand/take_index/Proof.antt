@@ -1,0 +1,89 @@
+-- `symbols::Hand::take_index` meets its contract: two bits are at hand, so one byte more or two make fourteen. Assumes nothing.
+use Prim.Native.Nat.{_≤_}
+use mathlib.Core.Path.{_≡_}
+use mathlib.Core.Logic.{⊎-elim}
+use native.Mathlib.Omega.{arith}
+use borrow.Author.Needs.{needs}
+use lib.ListN.{length, drop}
+use Rattle.rules.specs.declared.Symbol.the-variants.{Index}
+use Rattle.rules.specs.Stream.{unpack}
+use Rattle.symbols.specs.Hands.{size, held}
+use Rattle.symbols.proofs.Bits.{size-wide, size-index}
+use Rattle.symbols.proofs.Hands.{length-held, head-small, head-wide, head-walk}
+use Rattle.symbols.proofs.Cursors.{Grown, grown-none, grown-more, more-wide, hand-short, told-symbol}
+use Rattle.symbols.proofs.Hand.take_index.Statement.{statement}
+use Rattle.symbols.proofs.Hand.take_index.Tie as tie
+
+-- with one byte more, if it takes one
+one : (c : tie.Joined1) → let a = c .before .before .before .args in
+    let h = c .if1 .hand in Grown (a .self) h (a .page .now) × (size (held h) ≡ 14) × (10 ≤ h .bits)
+one c =
+    let s = c .before .before .before in
+    let f = s .pre .0 in
+    let e = s .pre .2 in
+    let m = size-wide (held (s .args .self)) e in
+    let o = grown-none f (s .pre .1) in
+    ⊎-elim
+    (λ w.
+    let l = w .3 .ensures in
+    rw (w .4) (grown-more o (w .2 .left) (omega (arith, w .0 .taken)) l, more-wide l e, omega (arith, l .more, length-held f)))
+    (λ w. rw (w .1) (o, e, omega (arith, w .0 .left)))
+    (c .if1 .came)
+
+returns : tie.Need-returns
+returns c = λ d r.
+    let e = c .before .before .before .before .before .pre .2 in
+    hand-short (r .inHand) (omega (arith, c .before .before .if1 .taken)) (c .if2 .taken)
+
+loaded-requires : tie.Need-loaded-requires
+loaded-requires c κs = search needs
+
+returns-2 : tie.Need-returns-2
+returns-2 c = λ d r.
+    let (o, e, m) = one (c .before .before .before .before) in
+    hand-short (o .reads d r .inHand) (omega (arith, c .before .before .if3 .taken)) (c .if4 .taken)
+
+-- with a second one, if it takes two
+two : (c : tie.Joined3) → let a = c .before .before .before .before .before .args in
+    let h = c .if3 .hand in Grown (a .self) h (a .page .now) × (size (held h) ≡ 14) × (14 ≤ h .bits)
+two c =
+    let p = one (c .before .before) in
+    let o = p .0 in
+    let e = p .1 in
+    ⊎-elim
+    (λ w.
+    let l = w .3 .ensures in
+    rw (w .4) (grown-more o (w .2 .left) (omega (arith, w .0 .taken)) l, more-wide l e, omega (arith, l .more, p .2)))
+    (λ w. rw (w .1) (o, e, omega (arith, w .0 .left)))
+    (c .if3 .came)
+
+loaded-requires-2 : tie.Need-loaded-requires-2
+loaded-requires-2 c κs =
+    let o = one (c .before .before .before .before) .0 in
+    (o .fits, omega (arith, c .before .before .if3 .taken), c .if4 .left, omega arith)
+
+sub-t11 : tie.Need-sub-t11
+sub-t11 c = let (o, e, m) = two (c .before) in omega (arith, head-wide (o .fits) e)
+
+cast-t12 : tie.Need-cast-t12
+cast-t12 c = let o = two (c .before) .0 in omega (arith, head-small (o .fits))
+
+past-requires : tie.Need-past-requires
+past-requires c κs =
+    let (o, e, m) = two (c .before) in
+    let n = o .needed .last in
+    (m, omega arith, omega arith, o .needed .loaded)
+
+returns-3 : tie.Need-returns-3
+returns-3 c = λ d r.
+    let j = c .before .before in
+    let h = j .if3 .hand in
+    let page = j .before .before .before .before .before .args .page .now in
+    let (o, e, m) = two j in
+    let q = o .reads d r in
+    let l : 14 ≤ length (held h) = omega (arith, length-held (o .fits)) in
+    let t = rw (head-walk (o .fits) e l) at (size-index (held h) (unpack (drop (h .at) page)) e l) in
+    told-symbol d page (held h) (unpack (drop (h .at) page)) (q .inHand .same) 14 e l _ (Index _) t (c .past .ensures d page q (omega (arith, q .longer)))
+
+pub take-index-spec : {M : Type 1} → statement M
+take-index-spec = tie.close (tie.spec returns loaded-requires returns-2 loaded-requires-2 sub-t11 cast-t12 past-requires returns-3)
