@@ -37,7 +37,7 @@ extern "C" {
 #endif
 
 /* The library's version, as pkg-config and the Rust wrapper give it too. */
-#define KZ_VERSION "0.4.0"
+#define KZ_VERSION "0.5.0"
 
 /* The limits, and the rooms that are long enough for every map. */
 enum {

@@ -88,21 +88,13 @@ page-moved page at to =
     rw (← drop-drop (to / 8) at page, ← unpack-drop (to / 8) (drop at page), drop-drop (to % 8) (8 * (to / 8)) (unpack (drop at page)), e)
 
 -- how many bits a symbol has by its first bits, and by the bits of a number of 24
-pub size-pos : (bs : List Bool) → 1 ≤ size bs
+pub size-range : (bs : List Bool) → (1 ≤ size bs) × (size bs ≤ 14)
 unfolding size
-size-pos [] = omega arith
-size-pos (false ∷ bs) = omega arith
-size-pos (true ∷ []) = omega arith
-size-pos (true ∷ false ∷ bs) = omega arith
-size-pos (true ∷ true ∷ bs) = omega arith
-
-pub size-most : (bs : List Bool) → size bs ≤ 14
-unfolding size
-size-most [] = omega arith
-size-most (false ∷ bs) = omega arith
-size-most (true ∷ []) = omega arith
-size-most (true ∷ false ∷ bs) = omega arith
-size-most (true ∷ true ∷ bs) = omega arith
+size-range [] = (omega arith, omega arith)
+size-range (false ∷ bs) = (omega arith, omega arith)
+size-range (true ∷ []) = (omega arith, omega arith)
+size-range (true ∷ false ∷ bs) = (omega arith, omega arith)
+size-range (true ∷ true ∷ bs) = (omega arith, omega arith)
 
 pub size-kinds : (bs : List Bool) → size bs ≢ 1 → size bs ≢ 2 → size bs ≡ 14
 unfolding size
@@ -134,7 +126,7 @@ size-zeros (true ∷ true ∷ bs) k = refl
 -- bits after others, and after a whole symbol
 pub size-grows : (bs ys : List Bool) → size bs ≤ size (bs ++ ys)
 unfolding size
-size-grows [] ys = size-pos ys
+size-grows [] ys = size-range ys .0
 size-grows (false ∷ bs) ys = omega arith
 size-grows (true ∷ []) [] = omega arith
 size-grows (true ∷ []) (false ∷ ys) = omega arith
@@ -153,7 +145,7 @@ size-more (true ∷ true ∷ bs) ys h = refl
 -- bits that begin a symbol are fewer than the symbol has
 pub begins-size : (ws ys : List Bool) → begins ws ≡ true → length ws < size (ws ++ ys)
 unfolding begins size
-begins-size [] ys g = size-pos ys
+begins-size [] ys g = size-range ys .0
 begins-size (false ∷ ws) ys g = let z : _≡_ {A = ℕ} 0 1 = cc in absurd (omega arith)
 begins-size (true ∷ []) [] g = omega arith
 begins-size (true ∷ []) (false ∷ ys) g = omega arith
@@ -162,21 +154,13 @@ begins-size (true ∷ false ∷ ws) ys g = let z : _≡_ {A = ℕ} 0 1 = cc in a
 begins-size (true ∷ true ∷ ws) ys g = omega (arith, leb-true (length ws) 11 g)
 
 -- bits that hold a whole symbol, N or B, or none
-pub whole-new : (ws : List Bool) → whole ws ≡ 1 → (size ws ≡ 1) × (1 ≤ length ws)
+pub whole-holds : (ws : List Bool) → 1 ≤ whole ws → (size ws ≡ whole ws) × (whole ws ≤ length ws)
 unfolding whole size
-whole-new [] e = absurd (omega arith)
-whole-new (false ∷ ws) e = (refl, omega arith)
-whole-new (true ∷ []) e = absurd (omega arith)
-whole-new (true ∷ false ∷ ws) e = absurd (omega arith)
-whole-new (true ∷ true ∷ ws) e = absurd (omega arith)
-
-pub whole-border : (ws : List Bool) → whole ws ≡ 2 → (size ws ≡ 2) × (2 ≤ length ws)
-unfolding whole size
-whole-border [] e = absurd (omega arith)
-whole-border (false ∷ ws) e = absurd (omega arith)
-whole-border (true ∷ []) e = absurd (omega arith)
-whole-border (true ∷ false ∷ ws) e = (refl, omega arith)
-whole-border (true ∷ true ∷ ws) e = absurd (omega arith)
+whole-holds [] h = absurd (omega arith)
+whole-holds (false ∷ ws) h = (refl, omega arith)
+whole-holds (true ∷ []) h = absurd (omega arith)
+whole-holds (true ∷ false ∷ ws) h = (refl, omega arith)
+whole-holds (true ∷ true ∷ ws) h = absurd (omega arith)
 
 pub whole-none : (ws : List Bool) → length ws ≤ 13 → whole ws ≢ 1 → whole ws ≢ 2 → length ws < size ws
 unfolding whole size

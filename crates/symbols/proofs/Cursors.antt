@@ -10,7 +10,6 @@ use lib.ListN.{length, getD, drop, length-append, drop-of-length-le}
 use lib.Seq.{drop-nil, drop-drop, drop-append-le, drop-append-add}
 use lib.Pow.{pow-pos, shl-exact}
 use Rattle.rules.specs.declared.Symbol.{Symbol}
-use Rattle.rules.specs.declared.Symbol.the-variants.{New, Border}
 use Rattle.rules.specs.Stream.{bitsOf, unpack, takeSymbol}
 use Rattle.rules.specs.Stream as stream
 use Rattle.rules.specs.Session.{begins}
@@ -21,8 +20,7 @@ use Rattle.symbols.specs.declared.Hand.{Hand}
 use Rattle.symbols.specs.declared.Taken.the-variants as Taken
 use Rattle.symbols.specs.Cursors.{atHand, CursorFits, Past, told, PastSymbol, SymbolTaken}
 use Rattle.symbols.specs.Hands.{size, whole, none, held, HandFits, Loads, Joins, Holds, InHand, Needed, Reads}
-use Rattle.symbols.proofs.Bits.{bits-drop, page-loaded, page-moved, size-pos, size-most, size-grows, size-more, size-short, size-new, size-border}
-use Rattle.symbols.proofs.Bits.{begins-size, whole-new, whole-border, whole-none}
+use Rattle.symbols.proofs.Bits.{bits-drop, page-loaded, page-moved, size-range, size-grows, size-more, size-short, begins-size, whole-holds, whole-none}
 use Rattle.symbols.proofs.Hands.{length-held, none-held}
 
 -- the weight of the bit before j others, as the code shifts it
@@ -56,7 +54,7 @@ module _ (c : Cursor) {h : Hand} {page : List ℕ} where
   module _ (f : CursorFits c page) (within : c .at < length page) (l : Loads (c .bit) (none (c .at)) h page) where
     pub here-starts : c .waiting ≡ 0 → Needed h × Reads c h page
     here-starts zero =
-        let s = size-pos (held h) in
+        let s = size-range (held h) .0 in
         let m = l .more in
         let a = l .at in (
           record { some = omega (arith, f .inByte); loaded = omega arith; last = omega arith },
@@ -81,7 +79,7 @@ module _ {h g : Hand} {page : List ℕ} (l : Loads 0 h g page) where
   more-size = rw (l .held) (size-grows (held h) (bitsOf 8 (getD page (h .at) 0)))
 
   pub more-wide : size (held h) ≡ 14 → size (held g) ≡ 14
-  more-wide e = omega (arith, more-size, size-most (held g))
+  more-wide e = omega (arith, more-size, size-range (held g) .1)
 
   more-needed : Needed h → h .bits < size (held h) → Needed g
   more-needed n k =
@@ -120,10 +118,10 @@ grown-more o within few l = record { fits = l .fits; needed = more-needed l (o .
 -- the hand that a symbol is told from stands at most three bytes after the cursor, and at most two where bits wait and the cursor is at a byte's start
 module _ {c : Cursor} {h : Hand} {page : List ℕ} (n : Needed h) (r : Reads c h page) where
   pub three-bytes : c .bit < 8 → h .at ≤ c .at + 3
-  three-bytes b = omega (arith, n .last, r .upTo, size-most (held h))
+  three-bytes b = omega (arith, n .last, r .upTo, size-range (held h) .1)
 
   pub two-bytes : c .bit ≡ 0 → 1 ≤ c .waiting → h .at ≤ c .at + 2
-  two-bytes b w = omega (arith, n .last, r .upTo, size-most (held h))
+  two-bytes b w = omega (arith, n .last, r .upTo, size-range (held h) .1)
 
 -- past some of the bits that wait
 pub past-some : {c : Cursor} {page : List ℕ} → CursorFits c page → (k : ℕ) (d : Cursor) → k ≤ c .waiting → d .waiting ≡ c .waiting - k
@@ -213,18 +211,13 @@ module _ {c : Cursor} {page : List ℕ} (f : CursorFits c page) where
       told-short c page ws (drop (c .bit) (unpack (drop (c .at) page))) refl (omega (arith, length-bits (c .waiting) (c .value)))
       (rw (drop-of-length-le page e) (drop-nil (c .bit)))
 
-  pub waits-new : (d : Cursor) → whole (bitsOf (c .waiting) (c .value)) ≡ 1 → Past 1 c d page → SymbolTaken (Taken.Symbol New d) c page
+  pub waits-symbol : (d : Cursor) (s : Symbol) (n : ℕ) → whole (bitsOf (c .waiting) (c .value)) ≡ n → 1 ≤ n
+      → ((bs ys : List Bool) → size bs ≡ n → n ≤ length bs → takeSymbol (bs ++ ys) ≡ stream.Taken.symbol (toldSymbol s) (drop n (bs ++ ys)))
+      → Past n c d page → SymbolTaken (Taken.Symbol s d) c page
   unfolding atHand
-  waits-new d e p =
+  waits-symbol d s n e some t p =
       let ws = bitsOf (c .waiting) (c .value) in
       let ys = drop (c .bit) (unpack (drop (c .at) page)) in
-      let (s, l) = whole-new ws e in
-      told-symbol c page ws ys refl 1 s l d New (size-new ws ys s l) p
-
-  pub waits-border : (d : Cursor) → whole (bitsOf (c .waiting) (c .value)) ≡ 2 → Past 2 c d page → SymbolTaken (Taken.Symbol Border d) c page
-  unfolding atHand
-  waits-border d e p =
-      let ws = bitsOf (c .waiting) (c .value) in
-      let ys = drop (c .bit) (unpack (drop (c .at) page)) in
-      let (s, l) = whole-border ws e in
-      told-symbol c page ws ys refl 2 s l d Border (size-border ws ys s l) p
+      let w = whole-holds ws (omega arith) in
+      let l : n ≤ length ws = omega (arith, w .1) in
+      told-symbol c page ws ys refl n (w .0 ∙ e) l d s (t ws ys (w .0 ∙ e) l) p

@@ -215,7 +215,8 @@ impl Cursor {
         }
     }
 
-    // How the next symbol begins. The cursor's byte is loaded only where the bits that wait hold no whole symbol.
+    // How the next symbol begins. The cursor's byte is loaded only where the bits that wait hold no whole symbol; those
+    // of a fit session never hold one.
     pub fn first(self, page: &[u8]) -> First
         requires { ⌜ CursorFits self (now page) ⌝ }
         ensures { λ r. ⌜ Starts r self (now (page .entry)) ⌝ }

@@ -2,12 +2,13 @@
 use mathlib.Core.Path.{sym, _∙_}
 use native.Mathlib.Omega.{arith}
 use borrow.Author.Needs.{needs}
+use Rattle.rules.specs.declared.Symbol.the-variants.{New, Border}
 use Rattle.rules.specs.Stream.{bitsOf}
 use Rattle.rules.proofs.Codes.{length-bits}
 use Rattle.symbols.specs.Hands.{Holds, Starts}
-use Rattle.symbols.proofs.Bits.{size-pos, whole-border}
+use Rattle.symbols.proofs.Bits.{size-range, size-new, size-border, whole-holds}
 use Rattle.symbols.proofs.Hands.{none-fits, head-small}
-use Rattle.symbols.proofs.Cursors.{ahead-end, alone, here-starts, behind-starts, hand-short, waits-none, waits-short, waits-new, waits-border}
+use Rattle.symbols.proofs.Cursors.{ahead-end, alone, here-starts, behind-starts, hand-short, waits-none, waits-short, waits-symbol}
 use Rattle.symbols.proofs.Cursor.first.Statement.{statement}
 use Rattle.symbols.proofs.Cursor.first.Tie as tie
 
@@ -18,7 +19,7 @@ returns c =
     let a = s .args in
     let e = c .if2 .taken in
     hand-short (alone (a .self) (c .before .if1 .taken) (none-fits (a .self .at) (a .page .now) (s .pre .within)) (ahead-end (a .self) (a .page .now) e))
-    (size-pos _) e
+    (size-range _ .0) e
 
 here-requires : tie.Need-here-requires
 here-requires c κs = search needs
@@ -39,20 +40,20 @@ returns-3 : tie.Need-returns-3
 unfolding Starts
 returns-3 c =
     let f = c .before .before .before .before .before .before .pre in
-    waits-new f _ (sym (c .before .before .whole .ensures) ∙ c .before .if3 .taken) (c .fewer .ensures _ f)
+    waits-symbol f _ New 1 (sym (c .before .before .whole .ensures) ∙ c .before .if3 .taken) (omega arith) size-new (c .fewer .ensures _ f)
 
 fewer-requires-2 : tie.Need-fewer-requires-2
 fewer-requires-2 c κs =
     let s = c .before .before .before .before .before .before in
     let a = s .args .self in
     let e = sym (c .before .before .whole .ensures) ∙ c .if4 .taken in
-    (omega (arith, whole-border (bitsOf (a .waiting) (a .value)) e .1, length-bits (a .waiting) (a .value)), s .pre .few)
+    (omega (arith, whole-holds (bitsOf (a .waiting) (a .value)) (omega arith) .1, length-bits (a .waiting) (a .value)), s .pre .few)
 
 returns-4 : tie.Need-returns-4
 unfolding Starts
 returns-4 c =
     let f = c .before .before .before .before .before .before .before .pre in
-    waits-border f _ (sym (c .before .before .before .whole .ensures) ∙ c .before .if4 .taken) (c .fewer2 .ensures _ f)
+    waits-symbol f _ Border 2 (sym (c .before .before .before .whole .ensures) ∙ c .before .if4 .taken) (omega arith) size-border (c .fewer2 .ensures _ f)
 
 returns-5 : tie.Need-returns-5
 unfolding Starts

@@ -7,7 +7,7 @@ use borrow.Author.Needs.{needs}
 use lib.ListN.{length}
 use Rattle.rules.specs.declared.Symbol.the-variants.{New, Border}
 use Rattle.symbols.specs.Hands.{size, held}
-use Rattle.symbols.proofs.Bits.{size-pos, size-kinds, size-new, size-border}
+use Rattle.symbols.proofs.Bits.{size-range, size-kinds, size-new, size-border}
 use Rattle.symbols.proofs.Hands.{length-held, head-size, head-small}
 use Rattle.symbols.proofs.Cursors.{Grown, grown-none, grown-more, more-size, hand-short, told-symbol}
 use Rattle.symbols.proofs.Hand.take.Statement.{statement}
@@ -18,12 +18,12 @@ first : (c : tie.After-size) → let a = c .before .before .args in c .size .res
 first c = c .size .ensures ∙ head-size (c .before .before .pre .0)
 
 longer : (c : tie.Else1) → 2 ≤ size (held (c .before .before .before .args .self))
-longer c = omega (arith, size-pos (held (c .before .before .before .args .self)), first (c .before), c .if1 .left)
+longer c = omega (arith, size-range (held (c .before .before .before .args .self)) .0, first (c .before), c .if1 .left)
 
 -- with one byte more, if the second bit takes one
-two : (c : tie.Joined2) → let a = c .before .before .before .before .before .args in
+one-more : (c : tie.Joined2) → let a = c .before .before .before .before .before .args in
     let h = c .if2 .hand in Grown (a .self) h (a .page .now) × (2 ≤ size (held h)) × (2 ≤ h .bits)
-two c =
+one-more c =
     let s = c .before .before .before .before .before in
     let k = longer (c .before .before) in
     let n = s .pre .1 in
@@ -36,7 +36,7 @@ two c =
     (c .if2 .came)
 
 second : (c : tie.After-size2) → c .size2 .result ≡ size (held (c .before .if2 .hand))
-second c = c .size2 .ensures ∙ head-size (two (c .before) .0 .fits)
+second c = c .size2 .ensures ∙ head-size (one-more (c .before) .0 .fits)
 
 size-requires : tie.Need-size-requires
 size-requires c κs = head-small (c .before .pre .0)
@@ -64,18 +64,18 @@ loaded-requires : tie.Need-loaded-requires
 loaded-requires c κs = search needs
 
 size-requires-2 : tie.Need-size-requires-2
-size-requires-2 c κs = head-small (two c .0 .fits)
+size-requires-2 c κs = head-small (one-more c .0 .fits)
 
 past-requires-2 : tie.Need-past-requires-2
 past-requires-2 c κs =
-    let (o, k, m) = two (c .before .before) in
+    let (o, k, m) = one-more (c .before .before) in
     let e = sym (second (c .before)) ∙ c .if4 .taken in
     let n = o .needed .last in
     (omega arith, omega arith, o .fits .few, o .needed .loaded)
 
 returns-3 : tie.Need-returns-3
 returns-3 c = λ d r.
-    let (o, k, m) = two (c .before .before .before) in
+    let (o, k, m) = one-more (c .before .before .before) in
     let e = sym (second (c .before .before)) ∙ c .before .if4 .taken in
     let q = o .reads d r in
     let l : 2 ≤ length (held (c .before .before .before .if2 .hand)) = omega (arith, length-held (o .fits)) in
@@ -84,14 +84,14 @@ returns-3 c = λ d r.
 -- what is left is a w
 wide : (c : tie.Else4) → size (held (c .before .before .if2 .hand)) ≡ 14
 wide c =
-    let k = two (c .before .before) .1 in
+    let k = one-more (c .before .before) .1 in
     size-kinds _ (λ q. absurd (omega (arith, q))) (λ q. c .if4 .left (second (c .before) ∙ q))
 
 take-index-requires : tie.Need-take-index-requires
-take-index-requires c κs = let o = two (c .before .before) .0 in (o .fits, o .needed, wide c)
+take-index-requires c κs = let o = one-more (c .before .before) .0 in (o .fits, o .needed, wide c)
 
 returns-4 : tie.Need-returns-4
-returns-4 c = λ d r. c .take-index .ensures d (two (c .before .before .before) .0 .reads d r)
+returns-4 c = λ d r. c .take-index .ensures d (one-more (c .before .before .before) .0 .reads d r)
 
 pub take-spec : {M : Type 1} → statement M
 take-spec =

@@ -15,9 +15,9 @@ use Rattle.symbols.proofs.Hand.take_index.Statement.{statement}
 use Rattle.symbols.proofs.Hand.take_index.Tie as tie
 
 -- with one byte more, if it takes one
-one : (c : tie.Joined1) → let a = c .before .before .before .args in
+one-more : (c : tie.Joined1) → let a = c .before .before .before .args in
     let h = c .if1 .hand in Grown (a .self) h (a .page .now) × (size (held h) ≡ 14) × (10 ≤ h .bits)
-one c =
+one-more c =
     let s = c .before .before .before in
     let f = s .pre .0 in
     let e = s .pre .2 in
@@ -40,14 +40,14 @@ loaded-requires c κs = search needs
 
 returns-2 : tie.Need-returns-2
 returns-2 c = λ d r.
-    let (o, e, m) = one (c .before .before .before .before) in
+    let (o, e, m) = one-more (c .before .before .before .before) in
     hand-short (o .reads d r .inHand) (omega (arith, c .before .before .if3 .taken)) (c .if4 .taken)
 
 -- with a second one, if it takes two
-two : (c : tie.Joined3) → let a = c .before .before .before .before .before .args in
+two-more : (c : tie.Joined3) → let a = c .before .before .before .before .before .args in
     let h = c .if3 .hand in Grown (a .self) h (a .page .now) × (size (held h) ≡ 14) × (14 ≤ h .bits)
-two c =
-    let p = one (c .before .before) in
+two-more c =
+    let p = one-more (c .before .before) in
     let o = p .0 in
     let e = p .1 in
     ⊎-elim
@@ -59,18 +59,18 @@ two c =
 
 loaded-requires-2 : tie.Need-loaded-requires-2
 loaded-requires-2 c κs =
-    let o = one (c .before .before .before .before) .0 in
+    let o = one-more (c .before .before .before .before) .0 in
     (o .fits, omega (arith, c .before .before .if3 .taken), c .if4 .left, omega arith)
 
 sub-t11 : tie.Need-sub-t11
-sub-t11 c = let (o, e, m) = two (c .before) in omega (arith, head-wide (o .fits) e)
+sub-t11 c = let (o, e, m) = two-more (c .before) in omega (arith, head-wide (o .fits) e)
 
 cast-t12 : tie.Need-cast-t12
-cast-t12 c = let o = two (c .before) .0 in omega (arith, head-small (o .fits))
+cast-t12 c = let o = two-more (c .before) .0 in omega (arith, head-small (o .fits))
 
 past-requires : tie.Need-past-requires
 past-requires c κs =
-    let (o, e, m) = two (c .before) in
+    let (o, e, m) = two-more (c .before) in
     let n = o .needed .last in
     (m, omega arith, omega arith, o .needed .loaded)
 
@@ -79,7 +79,7 @@ returns-3 c = λ d r.
     let j = c .before .before in
     let h = j .if3 .hand in
     let page = j .before .before .before .before .before .args .page .now in
-    let (o, e, m) = two j in
+    let (o, e, m) = two-more j in
     let q = o .reads d r in
     let l : 14 ≤ length (held h) = omega (arith, length-held (o .fits)) in
     let t = rw (head-walk (o .fits) e l) at (size-index (held h) (unpack (drop (h .at) page)) e l) in
