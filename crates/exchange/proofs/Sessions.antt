@@ -6,27 +6,30 @@ use mathlib.Core.List.{List, [], _∷_, _++_, append-nil, append-assoc}
 use Rattle.rules.specs.declared.Session.{Session}
 use Rattle.rules.specs.Stream.{value, unpack}
 use Rattle.rules.specs.Reading.{readingOf, readHeader, answerOf, tablesOf, readWhole, readAnswer, readTables}
-use Rattle.rules.specs.Session.{idle, store, opened, Left, leaves, page, close, recordFor, tablesFor}
-use Rattle.rules.proofs.Sessions.{whole, page-reads, close-whole}
-use Rattle.stored.specs.Answers.{readNumbers}
+use Rattle.rules.specs.Session.{idle, store, opened, leaves, close, recordFor, tablesFor}
+use Rattle.rules.specs.Fetch.{fetchOf, pageCall}
+use Rattle.rules.proofs.Sessions.{whole, close-whole}
+use Rattle.rules.proofs.Fetch.{call-reads}
+use Rattle.stored.specs.Answers.{readNumbers, pageNumbers}
 use Rattle.stored.specs.Layout.{storedSession}
 use Rattle.stored.proofs.Sessions.{Narrow, stands-stored, session-back, record-narrow}
-use Rattle.exchange.specs.Rooms.{Lent, lent, stored, ifStanding, called, pageLent, closeLent}
+use Rattle.exchange.specs.Rooms.{Lent, lent, stored, pageStored, ifStanding, called, pageLent, closeLent}
 
 -- a call on the stored numbers of a session is the call on the session
-pub called-stored : (s : Session) → Narrow s → (f : Session → Left) (t : List ℕ) → called f (storedSession s) t ≡ stored (f s)
+pub called-stored : (s : Session) → Narrow s → (f : Session → Lent) (unfit t : List ℕ) → called f unfit (storedSession s) t ≡ f s
 unfolding called ifStanding
-called-stored s v f t = rw (stands-stored s v, session-back s v) refl
+called-stored s v f unfit t = rw (stands-stored s v, session-back s v) refl
 
 -- the rooms for the bytes so far
 unfoldable pub roomsFor : List ℕ → List ℕ → Lent
-roomsFor bytes t = lent (storedSession (recordFor bytes t)) (readNumbers (answerOf (readingOf (unpack bytes) t))) (tablesFor bytes t)
+roomsFor bytes t = lent (storedSession (recordFor bytes t))
+    (pageNumbers (record { reading = answerOf (readingOf (unpack bytes) t); fetch = fetchOf (recordFor bytes t) })) (tablesFor bytes t)
 
 page-rooms : (xs p t : List ℕ) → pageLent (storedSession (recordFor xs t)) p (tablesFor xs t) ≡ roomsFor (xs ++ p) t
 unfolding pageLent roomsFor
 page-rooms xs p t =
-    called-stored (recordFor xs t) (record-narrow xs t) (λ s. page s p (tablesFor xs t)) (tablesFor xs t)
-    ∙ (ap stored (page-reads xs p t) ∙ (unfold stored leaves recordFor tablesFor in refl))
+    called-stored (recordFor xs t) (record-narrow xs t) (λ s. pageStored (pageCall s p (tablesFor xs t))) _ (tablesFor xs t)
+    ∙ (ap pageStored (call-reads xs p t) ∙ (unfold pageStored in refl))
 
 -- pages given in order, each to the rooms as the call before it has left them, each call meeting the contract of `kz_page`
 pub data Given : List (List ℕ) → Lent → Lent → Type 0 where
@@ -63,7 +66,8 @@ given-rooms p ps t a z (Given.more y ey g) = given-from p t (ey ∙ opening-page
 close-rooms : (bytes t : List ℕ) → closeLent (storedSession (recordFor bytes t)) (tablesFor bytes t) ≡ stored (leaves (readWhole bytes t) t)
 unfolding closeLent
 close-rooms bytes t =
-    called-stored (recordFor bytes t) (record-narrow bytes t) (λ s. close s (tablesFor bytes t)) (tablesFor bytes t) ∙ ap stored (close-whole bytes t)
+    called-stored (recordFor bytes t) (record-narrow bytes t) (λ s. stored (close s (tablesFor bytes t))) _ (tablesFor bytes t)
+    ∙ ap stored (close-whole bytes t)
 
 read-rooms : (bytes t : List ℕ) (y : Lent) → y ≡ closeLent (storedSession (recordFor bytes t)) (tablesFor bytes t)
     → (y .answer ≡ readNumbers (readAnswer bytes t)) × (y .tables ≡ readTables bytes t)

@@ -4,8 +4,9 @@ use mathlib.Core.List.{List}
 use mathlib.Core.Bool.{Bool, true, false}
 use Rattle.rules.specs.declared.Session.{Session}
 use Rattle.rules.specs.Reading.{plainAnswer}
-use Rattle.rules.specs.Session.{Left, page, close}
-use Rattle.stored.specs.Answers.{readNumbers}
+use Rattle.rules.specs.Session.{Left, close}
+use Rattle.rules.specs.Fetch.{PageLeft, pageCall}
+use Rattle.stored.specs.Answers.{readNumbers, pageNumbers}
 use Rattle.stored.specs.Layout.{storedSession, sessionBy, standing}
 
 -- what a session's call leaves in the rooms lent to it
@@ -22,19 +23,23 @@ lent r a t = record { numbers = r; answer = a; tables = t }
 unfoldable pub stored : Left → Lent
 stored l = lent (storedSession (l .session)) (readNumbers (l .answer)) (l .tables)
 
--- a record that no Session stands for is 19; it and the tables stay as given
-unfoldable pub ifStanding : Bool → List ℕ → List ℕ → Lent → Lent
-ifStanding true r t l = l
-ifStanding false r t l = lent r (readNumbers (plainAnswer 19 0)) t
+-- the same of a page, with its answer of six numbers
+unfoldable pub pageStored : PageLeft → Lent
+pageStored l = lent (storedSession (l .session)) (pageNumbers (l .answer)) (l .tables)
 
--- a session's call on a stored session
-unfoldable pub called : (Session → Left) → List ℕ → List ℕ → Lent
-called f r t = ifStanding (standing r) r t (stored (f (sessionBy r)))
+-- a record that no Session stands for is 19; it and the tables stay as given
+unfoldable pub ifStanding : Bool → Lent → Lent → Lent
+ifStanding true unfit l = l
+ifStanding false unfit l = unfit
+
+-- a session's call on a stored session, with its answer on 19
+unfoldable pub called : (Session → Lent) → List ℕ → List ℕ → List ℕ → Lent
+called f unfit r t = ifStanding (standing r) (lent r unfit t) (f (sessionBy r))
 
 -- the page call on a stored session
 unfoldable pub pageLent : List ℕ → List ℕ → List ℕ → Lent
-pageLent r bytes t = called (λ s. page s bytes t) r t
+pageLent r bytes t = called (λ s. pageStored (pageCall s bytes t)) (pageNumbers (record { reading = plainAnswer 19 0; fetch = 0 })) r t
 
 -- the close call on a stored session
 unfoldable pub closeLent : List ℕ → List ℕ → Lent
-closeLent r t = called (λ s. close s t) r t
+closeLent r t = called (λ s. stored (close s t)) (readNumbers (plainAnswer 19 0)) r t

@@ -1,6 +1,7 @@
 // The surface for C: exported functions on plain numbers and slices over the library's calls. Each returns the refusal
 // number; the whole answer goes to the answer room. A session is kept as stored numbers in the caller's own record.
 use rules::Session;
+use stored::PageRoom;
 use stored::ReadRoom;
 use stored::Record;
 ghost use mathlib.Core.Path.{_≡_};
@@ -92,7 +93,7 @@ pub extern "C" fn kz_page(
     kept: &mut Record,
     bytes: &[u8],
     tables: &mut [u16],
-    answer: &mut ReadRoom,
+    answer: &mut PageRoom,
 ) -> u32
     ensures { λ r. ⌜ (lent (now (kept .exit)) (now (answer .exit)) (now (tables .exit))
         ≡ pageLent (now (kept .entry)) (now (bytes .entry)) (now (tables .entry)))
@@ -100,15 +101,16 @@ pub extern "C" fn kz_page(
 {
     let given = *kept;
     if !stored::stands(given) {
-        *answer = stored::unfit_numbers();
+        *answer = stored::unfit_page_numbers();
         return 19;
     }
     let p = reader::page(stored::session_of(given), bytes, tables);
     let session = p.session;
     let a = p.answer;
     *kept = stored::stored_session(session);
-    *answer = stored::read_numbers(a);
-    a.number
+    *answer = stored::page_numbers(a);
+    let reading = a.reading;
+    reading.number
 }
 
 // A session's end.

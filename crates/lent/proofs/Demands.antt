@@ -4,34 +4,39 @@ use Prim.Native.Nat.{ℕ}
 use mathlib.Core.Path.{_≡_}
 use mathlib.Core.List.{List, [], _∷_}
 use Rattle.rules.specs.declared.Session.{Session}
+use Rattle.rules.specs.declared.PageAnswer.{PageAnswer}
 use Rattle.rules.specs.declared.ReadAnswer.{ReadAnswer}
 use Rattle.rules.specs.Stream.{unpack}
 use Rattle.rules.specs.Reading.{readingOf, answerOf, readAnswer, readTables}
-use Rattle.rules.specs.Session.{Left, page, close, recordFor, tablesFor}
-use Rattle.rules.proofs.Sessions.{whole, opening}
+use Rattle.rules.specs.Session.{close, recordFor, tablesFor}
+use Rattle.rules.specs.Fetch.{fetchOf, PageLeft, pageCall}
+use Rattle.rules.proofs.Sessions.{whole}
+use Rattle.rules.proofs.Fetch.{opening}
 use Rattle.records.specs.Lefts.{leftBy}
 use Rattle.reader.proofs.Demands.{Fed, fed-record, fed-read}
-use Rattle.lent.specs.Lent.{lentBy}
+use Rattle.lent.specs.Lent.{lentBy, pageLentBy}
 
 -- pages given in order to one lent record, with the tables as each call has left them, each call meeting the contract of `page`
-pub data LentPages : List (List ℕ) → Left → Left → Type 0 where
-  none : {x : Left} → LentPages [] x x
-  more : {p : List ℕ} {ps : List (List ℕ)} {x z : Left} (s : Session) (a : ReadAnswer) (u : List ℕ) → lentBy s a u ≡ page (x .session) p (x .tables)
-      → LentPages ps (lentBy s a u) z → LentPages (p ∷ ps) x z
+pub data LentPages : List (List ℕ) → PageLeft → PageLeft → Type 0 where
+  none : {x : PageLeft} → LentPages [] x x
+  more : {p : List ℕ} {ps : List (List ℕ)} {x z : PageLeft} (s : Session) (a : PageAnswer) (u : List ℕ)
+      → pageLentBy s a u ≡ pageCall (x .session) p (x .tables) → LentPages ps (pageLentBy s a u) z → LentPages (p ∷ ps) x z
 
 -- they are pages by value
-fed : {ps : List (List ℕ)} {x z : Left} → LentPages ps x z → Fed ps x z
-unfolding leftBy
+fed : {ps : List (List ℕ)} {x z : PageLeft} → LentPages ps x z → Fed ps x z
 fed LentPages.none = Fed.none
 fed (LentPages.more s a u e f) = Fed.more (record { session = s; answer = a }) u e (fed f)
 
--- after each page the lent record is the one for the bytes so far, and so are the answer and the tables
-pub lent-record : (ps : List (List ℕ)) (t : List ℕ) (z : Left) → LentPages ps (opening t) z
-    → z ≡ record { session = recordFor (whole ps) t; answer = answerOf (readingOf (unpack (whole ps)) t); tables = tablesFor (whole ps) t }
+-- after each page the lent record is the one for the bytes so far, and so are the answer with the bytes to fetch and the tables
+pub lent-record : (ps : List (List ℕ)) (t : List ℕ) (z : PageLeft) → LentPages ps (opening t) z → z ≡ record {
+  session = recordFor (whole ps) t;
+  answer = record { reading = answerOf (readingOf (unpack (whole ps)) t); fetch = fetchOf (recordFor (whole ps) t) };
+  tables = tablesFor (whole ps) t;
+}
 lent-record ps t z f = fed-record ps t z (fed f)
 
 -- pages from open, then one call that meets the contract of `close`: answer and tables of one call that meets the contract of `read`
-pub lent-read : (ps : List (List ℕ)) (t : List ℕ) (z : Left) → LentPages ps (opening t) z → (s : Session) (c : ReadAnswer) (v : List ℕ)
+pub lent-read : (ps : List (List ℕ)) (t : List ℕ) (z : PageLeft) → LentPages ps (opening t) z → (s : Session) (c : ReadAnswer) (v : List ℕ)
     → lentBy s c v ≡ close (z .session) (z .tables)
     → (a : ReadAnswer) (u : List ℕ) → (a ≡ readAnswer (whole ps) t) × (u ≡ readTables (whole ps) t) → (c ≡ a) × (v ≡ u)
 unfolding leftBy

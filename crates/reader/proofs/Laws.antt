@@ -1,6 +1,6 @@
 -- The session's calls, one way through the code at a time: the header's bytes, a fit running session may go on, a complete one takes no byte. Rests on the
 -- rules' Fitness and Sessions, and on runs.
-use Prim.Native.Nat.{ℕ, _+_, _*_, _/_, _%_, _≤_, _<_, _^_}
+use Prim.Native.Nat.{ℕ, _+_, _*_, _-_, _/_, _%_, _≤_, _<_, _^_}
 use mathlib.Core.Path.{_≡_, refl, ap, sym, _∙_}
 use mathlib.Core.Logic.{_≢_, _⊎_, inl, inr}
 use mathlib.Core.Bool.{Bool, true, false}
@@ -17,6 +17,7 @@ use Rattle.rules.specs.declared.State.{State}
 use Rattle.symbols.specs.declared.Cursor.{Cursor}
 use Rattle.rules.specs.declared.Stand.{Stand}
 use Rattle.records.specs.declared.Paged.{Paged}
+use Rattle.records.specs.declared.Fetching.{Fetching}
 use Rattle.rules.specs.declared.State.the-variants.{Header, Running, Complete, Closed, Refused}
 use Rattle.rules.specs.Map.{dimFits, size, blank, Limits}
 use Rattle.rules.specs.Walk.{Walk, start, steps}
@@ -25,18 +26,22 @@ use Rattle.rules.specs.Reading.{runAll, Reading, spoiled, settle, begun, header
 use Rattle.rules.specs.Reading.{answerOf, tablesOf, readAnswer, readTables}
 use Rattle.rules.specs.Session.{idle, held, store, opened, walkAt, standOf, walkOf, waitingOf, fit, Left, unchanged, leaves, goOn, afterEnd, pageAs}
 use Rattle.rules.specs.Session.{closeAs, ifFit, page, close, recordFor, tablesFor}
+use Rattle.rules.specs.Fetch.{wholeBytes, fetchAs, fetchOf, fetching, pageCall}
 use Rattle.rules.specs.Inner.{Shape}
 use Rattle.rules.proofs.Codes.{value-append, length-bits, value-lt, value-bits}
 use Rattle.rules.proofs.Readings.{begins-13, fits-dim}
 use Rattle.rules.proofs.Fitness.{walk-held, waiting-held, Fits, FitSession, fit-session, fit-shape}
 use Rattle.rules.proofs.Sessions.{record-fit, close-reads}
+use Rattle.rules.proofs.Fetch.{fetch-none, wants}
 use Rattle.symbols.specs.Cursors.{atHand}
 use Rattle.steps.specs.Steps.{stand}
 use Rattle.steps.proofs.Steps.{walk-start}
 use Rattle.runs.specs.Turns.{Ready}
 use Rattle.runs.proofs.Turns.{ready-start}
 use Rattle.records.specs.Lefts.{leftBy, idleBy, heldBy, goodBy}
+use Rattle.records.specs.Fetches.{readBy, fetchedBy, Fetches}
 use Rattle.records.proofs.Lefts.{complete-left, settle-same}
+use Rattle.records.proofs.Fetches.{left-wants}
 use Rattle.reader.specs.Calls.{headed, cursorOf}
 
 -- a header's two bytes: 4 bits N, 12 bits n-1
@@ -356,13 +361,36 @@ module _ (r : Paged) (s : Session) (t : List ℕ) where
   unfolding leftBy unchanged
   unchanged-left a e f = λ i. record { session = e i; answer = f i; tables = t }
 
+-- what is to be fetched: nothing where a refusal, a closed session or a complete one is left, and the rest of a header
+pub refused-none : (s : Session) (nr p : ℕ) → s ≡ idleBy (Refused nr p) 0 0 → 0 ≡ fetchOf s
+unfolding fetchOf fetchAs
+refused-none s nr p e = sym (ap fetchOf e)
+
+pub state-none : (s s' : Session) → s' ≡ s → (s .state ≡ Closed) ⊎ ((nr : ℕ) × (p : ℕ) × (s .state ≡ Refused nr p)) → 0 ≡ fetchOf s'
+state-none s s' e h = sym (ap fetchOf e ∙ fetch-none s (inr h))
+
+after-wants : (w : Walk) (bits : List Bool) → wants (afterEnd w bits) ≡ 0
+unfolding afterEnd spoiled wants
+after-wants w [] = refl
+after-wants w (b ∷ bits) = refl
+
+pub complete-wants : (p : Paged) (u : List ℕ) (w : Walk) (bits : List Bool) (t : List ℕ) → leftBy p u ≡ leaves (afterEnd w bits) t → 0 ≡ fetchOf (p .session)
+complete-wants p u w bits t e = sym (after-wants w bits) ∙ left-wants p u (afterEnd w bits) t e
+
+pub header-fetches : (r : Fetching) (k v : ℕ) → (readBy r ≡ record { session = idleBy Header k v; answer = plainAnswer 0 0 }) × (r .answer .fetch ≡ wholeBytes (16 - k))
+    → (t : List ℕ) {l : Left} → (r .session ≡ idleBy Header k v → r .answer .reading ≡ plainAnswer 0 0 → leftBy (readBy r) t ≡ l) → Fetches r t l
+unfolding fetchOf fetchAs
+header-fetches r k v (e, f) t h =
+    let q : r .session ≡ idleBy Header k v = ap (λ (p : Paged). p .session) e in
+    record { left = h q (ap (λ (p : Paged). p .answer) e); fetch = f ∙ sym (ap fetchOf q) }
+
 -- the two calls, fit and not
 module _ (s : Session) (t : List ℕ) (x : Left) where
-  pub page-as : (bytes : List ℕ) → fit s t ≡ true → x ≡ pageAs (s .state) s (unpack bytes) t → x ≡ page s bytes t
+  page-as : (bytes : List ℕ) → fit s t ≡ true → x ≡ pageAs (s .state) s (unpack bytes) t → x ≡ page s bytes t
   unfolding page ifFit
   page-as bytes h e = rw h e
 
-  pub page-unfit : (bytes : List ℕ) → fit s t ≡ false → x ≡ unchanged s t (plainAnswer 19 0) → x ≡ page s bytes t
+  page-unfit : (bytes : List ℕ) → fit s t ≡ false → x ≡ unchanged s t (plainAnswer 19 0) → x ≡ page s bytes t
   unfolding page ifFit
   page-unfit bytes h e = rw h e
 
@@ -373,6 +401,23 @@ module _ (s : Session) (t : List ℕ) (x : Left) where
   pub close-unfit : fit s t ≡ false → x ≡ unchanged s t (plainAnswer 19 0) → x ≡ close s t
   unfolding close ifFit
   close-unfit h e = rw h e
+
+-- the page call: what it leaves, with the bytes to fetch
+module _ (s : Session) (t : List ℕ) (r : Fetching) (u bytes : List ℕ) where
+  called : {l : Left} → leftBy (readBy r) u ≡ l → (f : ℕ) → r .answer .fetch ≡ f → fetchedBy r u ≡ fetching l f
+  unfolding fetching leftBy
+  called e f q = (λ i. record { session = r .session; answer = record { reading = r .answer .reading; fetch = q i }; tables = u }) ∙ ap (λ (y : Left). fetching y f) e
+
+  pub page-called : fit s t ≡ true → Fetches r u (pageAs (s .state) s (unpack bytes) t) → fetchedBy r u ≡ pageCall s bytes t
+  unfolding pageCall leftBy
+  page-called h e =
+      let q = page-as s t (leftBy (readBy r) u) bytes h (e .left) in
+      rw h (called q (fetchOf (page s bytes t .session)) (e .fetch ∙ ap (λ (y : Left). fetchOf (y .session)) q))
+
+  pub page-refused : fit s t ≡ false → (p : Paged) → (readBy r ≡ p) × (r .answer .fetch ≡ 0) → leftBy p u ≡ unchanged s t (plainAnswer 19 0)
+      → fetchedBy r u ≡ pageCall s bytes t
+  unfolding pageCall
+  page-refused h p (e, f) q = rw h (called (page-unfit s t (leftBy (readBy r) u) bytes h (ap (λ (y : Paged). leftBy y u) e ∙ q)) 0 f)
 
 -- nothing waits in a new session
 pub opened-bits : (s : Session) → s ≡ opened → ((s .waiting ≡ 0) ⊎ (s .waiting ≡ 8)) × (s .value < 256)

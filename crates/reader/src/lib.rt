@@ -1,4 +1,5 @@
 // The session's calls, by value: the page, closing, and the whole read, with the refusals of a reading.
+use records::Fetching;
 use records::Paged;
 use rules::ReadAnswer;
 use rules::Session;
@@ -9,33 +10,35 @@ ghost use mathlib.Core.Path.{_≡_};
 ghost use mathlib.Core.Bool.{true};
 ghost use mathlib.Core.Logic.{_⊎_};
 ghost use mathlib.Core.List.{_++_};
-ghost use Prim.Native.Nat.{_≤_, _<_};
+ghost use Prim.Native.Nat.{_-_, _≤_, _<_};
 ghost use lib.ListN.{length, drop};
 ghost use Rattle.rules.specs.Map.{Limits};
 ghost use Rattle.rules.specs.Stream.{unpack};
 ghost use Rattle.rules.specs.Reading.{plainAnswer, readAnswer, readTables, readingOf};
 ghost use Rattle.rules.specs.Session.{leaves, waitingOf, walkOf, goOn, afterEnd, pageAs, closeAs, standOf};
+ghost use Rattle.rules.specs.Fetch.{wholeBytes, pageCall};
 ghost use Rattle.runs.specs.Turns.{Ready};
 ghost use Rattle.records.specs.Lefts.{leftBy, idleBy};
+ghost use Rattle.records.specs.Fetches.{readBy, fetchedBy, Fetches};
 ghost use Rattle.reader.specs.Calls.{headed, cursorOf};
 
 // Both header bytes are in; the page goes on at a byte of it.
-pub fn begin(first: u8, second: u8, at: usize, page: &[u8], tables: &mut [u16]) -> Paged
+pub fn begin(first: u8, second: u8, at: usize, page: &[u8], tables: &mut [u16]) -> Fetching
     requires { ⌜ at ≤ length (now page) ⌝ }
-    ensures { λ r. let t = now (tables .entry) in ⌜ leftBy r (now (tables .exit))
-        ≡ leaves (headed first second (unpack (drop at (now (page .entry)))) t) t ⌝ }
+    ensures { λ r. let t = now (tables .entry) in ⌜ Fetches r (now (tables .exit))
+        (leaves (headed first second (unpack (drop at (now (page .entry)))) t) t) ⌝ }
 {
     let dim = (first / 16) as usize;
     let darts = (first % 16) as usize * 256 + second as usize + 1;
     if dim < 1 {
-        return records::refused(1, 0);
+        return records::asking(records::refused(1, 0), 0);
     }
     if 6 < dim {
-        return records::refused(1, 0);
+        return records::asking(records::refused(1, 0), 0);
     }
     let size = (dim + 1) * darts;
     if tables.len() < size {
-        return records::refused(3, 0);
+        return records::asking(records::refused(3, 0), 0);
     }
     tables::blank(tables, size);
     let stand = Stand {
@@ -51,20 +54,23 @@ pub fn begin(first: u8, second: u8, at: usize, page: &[u8], tables: &mut [u16]) 
     records::go_on(dim, darts, stand, c, page, tables)
 }
 
-// Fewer than two bytes of the header wait.
-pub fn header_waits(waiting: u16, value: u16) -> Paged
-    ensures { λ r. ⌜ (r .session ≡ idleBy State.Header waiting value) × (r .answer ≡ plainAnswer 0 0) ⌝ }
+// Fewer than two bytes of the header wait: the others are to be fetched.
+pub fn header_waits(waiting: u16, value: u16) -> Fetching
+    requires { ⌜ waiting ≤ 16 ⌝ }
+    ensures { λ r. ⌜ (readBy r ≡ record { session = idleBy State.Header waiting value; answer = plainAnswer 0 0 })
+        × (r .answer .fetch ≡ wholeBytes (16 - waiting)) ⌝ }
 {
     let session = records::idle(State::Header, waiting, value);
     let answer = records::plain(0, 0);
-    Paged { session, answer }
+    let fetch = records::whole_bytes(16 - waiting as u32);
+    records::asking(Paged { session, answer }, fetch)
 }
 
 // A page on a header session with no bits or eight.
-pub fn page_header(s: Session, page: &[u8], tables: &mut [u16]) -> Paged
+pub fn page_header(s: Session, page: &[u8], tables: &mut [u16]) -> Fetching
     requires { ⌜ ((s .waiting ≡ 0) ⊎ (s .waiting ≡ 8)) × (s .value < 256) ⌝ }
-    ensures { λ r. let t = now (tables .entry) in ⌜ leftBy r (now (tables .exit))
-        ≡ leaves (readingOf (waitingOf s ++ unpack (now (page .entry))) t) t ⌝ }
+    ensures { λ r. let t = now (tables .entry) in ⌜ Fetches r (now (tables .exit))
+        (leaves (readingOf (waitingOf s ++ unpack (now (page .entry))) t) t) ⌝ }
 {
     if s.waiting == 0 {
         if page.len() == 0 {
@@ -82,10 +88,10 @@ pub fn page_header(s: Session, page: &[u8], tables: &mut [u16]) -> Paged
 }
 
 // A page on a running session: what waits comes first.
-pub fn page_running(s: Session, page: &[u8], tables: &mut [u16]) -> Paged
+pub fn page_running(s: Session, page: &[u8], tables: &mut [u16]) -> Fetching
     requires { ⌜ Ready (s .dim) (s .darts) (standOf s) (cursorOf s) (now tables) (now page) ⌝ }
-    ensures { λ r. let t = now (tables .entry) in ⌜ leftBy r (now (tables .exit))
-        ≡ leaves (goOn s (unpack (now (page .entry))) t) t ⌝ }
+    ensures { λ r. let t = now (tables .entry) in ⌜ Fetches r (now (tables .exit))
+        (leaves (goOn s (unpack (now (page .entry))) t) t) ⌝ }
 {
     let stand = rules::stand_of(s);
     let c = Cursor {
@@ -118,18 +124,18 @@ pub fn page_complete(s: Session, page: &[u8], tables: &mut [u16]) -> Paged
 }
 
 // A page on a fit session, by its state.
-pub fn page_fit(s: Session, page: &[u8], tables: &mut [u16]) -> Paged
+pub fn page_fit(s: Session, page: &[u8], tables: &mut [u16]) -> Fetching
     requires { ⌜ Rattle.rules.specs.Session.fit s (now tables) ≡ true ⌝ }
-    ensures { λ r. ⌜ leftBy r (now (tables .exit)) ≡ pageAs (s .state) s (unpack (now (page .entry)))
-        (now (tables .entry)) ⌝ }
+    ensures { λ r. ⌜ Fetches r (now (tables .exit)) (pageAs (s .state) s (unpack (now (page .entry)))
+        (now (tables .entry))) ⌝ }
 {
     let state = s.state;
     match state {
         State::Header => page_header(s, page, tables),
         State::Running => page_running(s, page, tables),
-        State::Complete => page_complete(s, page, tables),
-        State::Closed => records::unchanged(s, 20, 0),
-        State::Refused(number, place) => records::unchanged(s, number, place),
+        State::Complete => records::asking(page_complete(s, page, tables), 0),
+        State::Closed => records::asking(records::unchanged(s, 20, 0), 0),
+        State::Refused(number, place) => records::asking(records::unchanged(s, number, place), 0),
     }
 }
 
@@ -157,14 +163,13 @@ pub fn close_fit(s: Session, tables: &mut [u16]) -> Paged
 }
 
 // The page call.
-pub fn page(s: Session, bytes: &[u8], tables: &mut [u16]) -> Paged
-    ensures { λ r. ⌜ leftBy r (now (tables .exit)) ≡ Rattle.rules.specs.Session.page s (now (bytes .entry))
-        (now (tables .entry)) ⌝ }
+pub fn page(s: Session, bytes: &[u8], tables: &mut [u16]) -> Fetching
+    ensures { λ r. ⌜ fetchedBy r (now (tables .exit)) ≡ pageCall s (now (bytes .entry)) (now (tables .entry)) ⌝ }
 {
     if fitness::fit(s, tables) {
         return page_fit(s, bytes, tables);
     }
-    records::unchanged(s, 19, 0)
+    records::asking(records::unchanged(s, 19, 0), 0)
 }
 
 // The close call.

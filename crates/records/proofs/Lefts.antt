@@ -116,9 +116,9 @@ module _ (w : Walk) (bs : List Bool) (t : List ℕ) (l : Left) (x : Signal) wher
   unfolding settle signalRun
   settled-ended q e = rw q e
 
-  pub settled-waits : x ≡ Waits → l ≡ leaves (Reading.running w bs) t → l ≡ leaves (settle (signalRun x w bs)) t
+  pub settled-waits : (k : ℕ) → x ≡ Waits k → l ≡ leaves (Reading.running w bs) t → l ≡ leaves (settle (signalRun x w bs)) t
   unfolding settle signalRun
-  settled-waits q e = rw q e
+  settled-waits k q e = rw q e
 
 -- after a run the tables as they stood no longer matter
 test-same : (b : Bool) (nr : ℕ) (w : Walk) (x : Reading) (t u : List ℕ) → leaves x t ≡ leaves x u → leaves (test b nr w x) t ≡ leaves (test b nr w x) u

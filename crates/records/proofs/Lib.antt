@@ -1,2 +1,3 @@
 pub mod Fills
 pub mod Lefts
+pub mod Fetches

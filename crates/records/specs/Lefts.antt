@@ -1,13 +1,13 @@
 -- What a call leaves, as the rules tell it: the record, the answer and the tables in one.
-use Prim.Native.Nat.{ℕ, _≤_}
+use Prim.Native.Nat.{ℕ}
 use mathlib.Core.Path.{_≡_}
 use mathlib.Core.List.{List, [], _∷_}
-use lib.ListN.{length}
 use Rattle.rules.specs.declared.Session.{Session}
 use Rattle.rules.specs.declared.State.{State}
 use Rattle.rules.specs.declared.ReadAnswer.{ReadAnswer}
 use Rattle.rules.specs.Lists.{sum}
 use Rattle.rules.specs.Map.{Limits}
+use Rattle.rules.specs.Stream.{Taken, takeSymbol}
 use Rattle.symbols.specs.declared.Cursor.{Cursor}
 use Rattle.symbols.specs.Cursors.{atHand, CursorFits}
 use Rattle.tables.specs.Darts.{Inside}
@@ -40,9 +40,9 @@ pub record Ends (N n : ℕ) (s : Stand) (c : Cursor) (t page : List ℕ) : Type 
   pub clean : c .waiting ≡ 0
   pub inside : s .count ≡ n → Inside N n t
 
--- what a run owes the session that it leaves: where it waits at most thirteen bits are left
+-- what a run owes the session that it leaves: where it waits the bits left run out within a symbol, with so many to come
 pub record Settles (N n : ℕ) (r : Ran) (t page : List ℕ) : Type 0 where
   pub limits : Limits N n t
   pub ends : r .signal ≡ Ended → Ends N n (r .stand) (r .cursor) t page
   pub fits : CursorFits (r .cursor) page
-  pub short : r .signal ≡ Waits → length (atHand (r .cursor) page) ≤ 13
+  pub short : (k : ℕ) → r .signal ≡ Waits k → takeSymbol (atHand (r .cursor) page) ≡ Taken.short k

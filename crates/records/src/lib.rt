@@ -1,5 +1,6 @@
 // The record and the answer that a reading leaves: refused, spoiled, held; the end of a walk, and where a run leaves
 // the session.
+use rules::PageAnswer;
 use rules::ReadAnswer;
 use rules::Session;
 use rules::Stand;
@@ -9,7 +10,7 @@ use runs::Signal;
 use symbols::Cursor;
 ghost use mathlib.Core.Path.{_≡_};
 ghost use mathlib.Core.Bool.{not};
-ghost use Prim.Native.Nat.{_≤_, _<_, _%_, _/_};
+ghost use Prim.Native.Nat.{ℕ, _≤_, _<_, _%_, _/_};
 ghost use lib.ListN.{length, take};
 ghost use lib.Dec.{eqb};
 ghost use Rattle.rules.specs.Lists.{sum};
@@ -18,15 +19,43 @@ ghost use Rattle.rules.specs.Stream.{value};
 ghost use Rattle.rules.specs.Reading as reading;
 ghost use Rattle.rules.specs.Reading.{plainAnswer, runAll};
 ghost use Rattle.rules.specs.Session.{leaves, walkAt};
+ghost use Rattle.rules.specs.Fetch.{wholeBytes};
 ghost use Rattle.symbols.specs.Cursors.{CursorFits, atHand};
 ghost use Rattle.runs.specs.Turns.{Ready};
 ghost use Rattle.runs.specs.Runs.{toldRun};
 ghost use Rattle.records.specs.Lefts.{leftBy, idleBy, heldBy, goodBy, Ends, Settles};
+ghost use Rattle.records.specs.Fetches.{readBy, signalFetch, Fetches};
 
-// A session and the answer of a call.
+// A session and the answer of a reading.
 pub struct Paged {
     pub session: Session,
     pub answer: ReadAnswer,
+}
+
+// A session and the answer of a page.
+pub struct Fetching {
+    pub session: Session,
+    pub answer: PageAnswer,
+}
+
+// The least number of whole bytes that have so many bits.
+pub fn whole_bytes(bits: u32) -> u32
+    requires { ⌜ bits ≤ 16 ⌝ }
+    ensures { λ r. ⌜ r ≡ wholeBytes bits ⌝ }
+{
+    (bits + 7) / 8
+}
+
+// A page's answer, with so many bytes to fetch.
+pub fn asking(left: Paged, fetch: u32) -> Fetching
+    ensures { λ r. ⌜ (readBy r ≡ left) × (r .answer .fetch ≡ fetch) ⌝ }
+{
+    let session = left.session;
+    let reading = left.answer;
+    Fetching {
+        session,
+        answer: PageAnswer { reading, fetch },
+    }
 }
 
 // N and n are 0; on a refusal the step count is the place.
@@ -201,10 +230,22 @@ pub fn settle(dim: usize, darts: usize, r: Ran, page: &[u8], tables: &mut [u16])
     match signal {
         Signal::Refused(number) => spoiled(number, dim, darts, stand, tables),
         Signal::Ended => finish(dim, darts, stand, cursor, page, tables),
-        Signal::Waits => {
+        Signal::Waits(_) => {
             let w = cursor.rest(page);
             held(State::Running, dim, darts, stand, w.bits, w.value)
         }
+    }
+}
+
+// How many bytes to fetch after a run: those of the bits that it waits for.
+pub fn to_fetch(signal: Signal) -> u32
+    requires { ⌜ ((k : ℕ) → signal ≡ Signal.Waits k → k ≤ 16) ⌝ }
+    ensures { λ r. ⌜ r ≡ signalFetch signal ⌝ }
+{
+    match signal {
+        Signal::Ended => 0,
+        Signal::Waits(bits) => whole_bytes(bits),
+        Signal::Refused(_) => 0,
     }
 }
 
@@ -216,11 +257,14 @@ pub fn go_on(
     c: Cursor,
     page: &[u8],
     tables: &mut [u16],
-) -> Paged
+) -> Fetching
     requires { ⌜ Ready dim darts stand c (now tables) (now page) ⌝ }
-    ensures { λ r. let t = now (tables .entry) in ⌜ leftBy r (now (tables .exit))
-        ≡ leaves (reading.settle (runAll (walkAt dim darts stand t) (atHand c (now (page .entry))))) t ⌝ }
+    ensures { λ r. let t = now (tables .entry) in ⌜ Fetches r (now (tables .exit))
+        (leaves (reading.settle (runAll (walkAt dim darts stand t) (atHand c (now (page .entry))))) t) ⌝ }
 {
     let r = runs::run(tables, dim, darts, stand, c, page);
-    settle(dim, darts, r, page, tables)
+    let signal = r.signal;
+    let fetch = to_fetch(signal);
+    let left = settle(dim, darts, r, page, tables);
+    asking(left, fetch)
 }

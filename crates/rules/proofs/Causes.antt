@@ -171,7 +171,7 @@ formerFault (Symbol.index e) = 12
 
 -- the symbol at the head b of Lj
 unfoldable pub formerTaken : Walk → List Bool → ℕ → ℕ → Taken → Step
-formerTaken w bs j b Taken.short = Step.stops (Run.waits w bs)
+formerTaken w bs j b (Taken.short k) = Step.stops (Run.waits w bs)
 formerTaken w bs j b (Taken.symbol s rest) = allow (permitted w j b s) (formerFault s) w (apply w j b s) rest
 
 -- a known and a deduced partner are as they are now
@@ -218,7 +218,7 @@ unfolding step
 step-before w bs = at (head w)
   where
     taken : (j b : ℕ) (t : Taken) → formerTaken w bs j b t ≡ stepTogether (stepTaken w bs j b t)
-    taken j b Taken.short = unfold formerTaken stepTaken stepTogether together in refl
+    taken j b (Taken.short k) = unfold formerTaken stepTaken stepTogether together in refl
     taken j b (Taken.symbol s rest) = unfold formerTaken stepTaken in symbol-before w j b s rest
 
     deduced : (t : Bool) (w' : Walk) → allow t 14 w w' bs ≡ stepTogether (allow t 14 w w' bs)

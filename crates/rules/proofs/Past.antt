@@ -286,7 +286,7 @@ module _ (w : Walk) (x : List ℕ) (v : Inv w) (bs : List Bool) where
   step-carried = at (head w) refl
     where
       taken : (j b : ℕ) → Next w j b → (k : Taken) → stepTaken (tailed w x) bs j b k ≡ stepTailed x (stepTaken w bs j b k)
-      taken j b n Taken.short = unfold stepTaken stepTailed runTailed in refl
+      taken j b n (Taken.short k) = unfold stepTaken stepTailed runTailed in refl
       taken j b n (Taken.symbol s rest) = unfold stepTaken in
           rw (permitted-tailed j b s (n .ranked), fault-tailed j b s (n .ranked))
           (allow-tailed (permitted w j b s) (fault w j b s) (apply w j b s) (apply (tailed w x) j b s) rest (λ p. apply-tailed w x v j b s n p))

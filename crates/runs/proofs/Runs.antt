@@ -9,7 +9,7 @@ use lib.ListN.{length}
 use Rattle.rules.specs.Lists.{sum}
 use Rattle.rules.specs.Map.{size}
 use Rattle.rules.specs.Walk.{Walk, Head, head, steps, enough}
-use Rattle.rules.specs.Stream.{bitsOf}
+use Rattle.rules.specs.Stream.{bitsOf, Taken, takeSymbol}
 use Rattle.rules.specs.Reading.{Run, Step, stepAt, step, onward, run, runAll}
 use Rattle.rules.specs.Session.{walkAt}
 use Rattle.rules.specs.Inner.{Emptied, Asks}
@@ -17,7 +17,6 @@ use Rattle.rules.specs.declared.Stand.{Stand}
 use Rattle.rules.proofs.Lowest.{head-past}
 use Rattle.rules.proofs.Moves.{Moved, moved, step-move}
 use Rattle.rules.proofs.Runs.{total, steps-total, fuel, Stopped, stopped}
-use Rattle.rules.proofs.Readings.{begins-13, run-asks, total-enough}
 use Rattle.symbols.specs.declared.Cursor.{Cursor}
 use Rattle.symbols.specs.Cursors.{atHand}
 use Rattle.steps.specs.Steps.{stand}
@@ -57,14 +56,20 @@ stopped-walk (Stopped.refused nr i) = refl
 signal-walk : (g : Signal) (w : Walk) (bs : List Bool) → runWalk (signalRun g w bs) ≡ w
 unfolding runWalk signalRun
 signal-walk Ended w bs = refl
-signal-walk Waits w bs = refl
+signal-walk (Waits m) w bs = refl
 signal-walk (Refused nr) w bs = refl
 
 -- signals by number
 abbrev signalNo : Signal → ℕ
 signalNo Ended = 0
-signalNo Waits = 1
+signalNo (Waits m) = 1
 signalNo (Refused nr) = 2
+
+-- the bits that a signal waits for
+abbrev bitsOfSignal : Signal → ℕ
+bitsOfSignal Ended = 0
+bitsOfSignal (Waits m) = m
+bitsOfSignal (Refused nr) = 0
 
 apart : {A : Type 0} (x y : Signal) → signalNo x ≢ signalNo y → x ≡ y → A
 apart x y h e = absurd (h (ap signalNo e))
@@ -82,8 +87,8 @@ module _ {N n : ℕ} {s0 : Stand} {c0 : Cursor} {t0 page : List ℕ} {k : ℕ} {
 
   -- the rules' step stops the run
   stop : (x : Signal) (ps' t' : List ℕ) → step here (atHand c page) ≡ Step.stops (signalRun x (walkAt N n (stand k ps') t') (atHand c page))
-      → (x ≡ Ended → c .waiting ≡ 0) → Runs N n s0 c0 t0 page (ran (stand k ps') c x) t'
-  stop x ps' t' e z = record { tells = sym (g .left ∙ last); fits = g .ready .fits; inv = rw same (g .ready .inv); clean = z; short = short }
+      → (x ≡ Ended → c .waiting ≡ 0) → ((m : ℕ) → x ≡ Waits m → takeSymbol (atHand c page) ≡ Taken.short m) → Runs N n s0 c0 t0 page (ran (stand k ps') c x) t'
+  stop x ps' t' e z b = record { tells = sym (g .left ∙ last); fits = g .ready .fits; inv = rw same (g .ready .inv); clean = z; short = b }
     where
       same : walkAt N n (stand k ps') t' ≡ here
       same =
@@ -93,17 +98,10 @@ module _ {N n : ℕ} {s0 : Stand} {c0 : Cursor} {t0 page : List ℕ} {k : ℕ} {
       last : runAll here (atHand c page) ≡ signalRun x (walkAt N n (stand k ps') t') (atHand c page)
       last = unfold runAll run onward enough in rw e
 
-      short : x ≡ Waits → length (atHand c page) ≤ 13
-      short q =
-          let w' = walkAt N n (stand k ps') t' in
-          let m = enough (here .dim) (here .darts) in
-          let r : run m here (atHand c page) ≡ Run.waits w' (atHand c page) = unfold runAll signalRun in rw q at last in
-          begins-13 (atHand c page) (run-asks m here (atHand c page) (g .ready .inv) (omega (arith, total-enough here)) w' (atHand c page) r .begun)
-
   -- all queues are empty
   pub run-ended : {j : ℕ} → Emptied k ps j → N < j → Runs N n s0 c0 t0 page (ran (stand k ps) c Ended) t
   unfolding signalRun step stepAt
-  run-ended {j} low h = stop Ended ps t (rw none) (λ _. go (g .ready .begun))
+  run-ended {j} low h = stop Ended ps t (rw none) (λ _. go (g .ready .begun)) (λ m z. apart Ended (Waits m) (omega arith) z)
     where
       none : head here ≡ Head.none
       none = unfold walkAt in head-past here (g .ready .inv .shape) j low h
@@ -114,13 +112,16 @@ module _ {N n : ℕ} {s0 : Stand} {c0 : Cursor} {t0 page : List ℕ} {k : ℕ} {
 
   -- a turn was made
   module _ {r : Turned} {ps' t' : List ℕ} (x : Turns N n k ps c t page r ps' t') where
-    pub run-waits : r ≡ turned.Waits → Runs N n s0 c0 t0 page (ran (stand k ps') c Waits) t'
-    unfolding toldTurn signalRun
-    run-waits q = stop Waits ps' t' (sym (rw q at (x .tells))) (λ z. apart Waits Ended (omega arith) z)
+    pub run-waits : (m : ℕ) → r ≡ turned.Waits m → Runs N n s0 c0 t0 page (ran (stand k ps') c (Waits m)) t'
+    unfolding toldTurn signalRun Again
+    run-waits m q =
+        stop (Waits m) ps' t' (sym (rw q at (x .tells))) (λ z. apart (Waits m) Ended (omega arith) z) (λ i z. (rw q at (x .again)) ∙ ap Taken.short (ap bitsOfSignal z))
 
     pub run-refused : (nr : ℕ) → r ≡ turned.Refused nr → Runs N n s0 c0 t0 page (ran (stand k ps') c (Refused nr)) t'
     unfolding toldTurn signalRun
-    run-refused nr q = stop (Refused nr) ps' t' (sym (rw q at (x .tells))) (λ z. apart (Refused nr) Ended (omega arith) z)
+    run-refused nr q =
+        stop (Refused nr) ps' t' (sym (rw q at (x .tells))) (λ z. apart (Refused nr) Ended (omega arith) z)
+        (λ m z. apart (Refused nr) (Waits m) (omega arith) z)
 
     module _ {rank k' : ℕ} {d : Cursor} (m : r ≡ turned.On rank k' d) where
       goes : step here (atHand c page) ≡ Step.goes (walkAt N n (stand k' ps') t') (atHand d page)

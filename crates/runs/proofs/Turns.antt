@@ -73,7 +73,7 @@ module _ {N n k : ℕ} {ps : List ℕ} {c : Cursor} {t page : List ℕ} (y : Rea
 
   -- where a step goes on, its walk may be stepped with the bits from d on
   goes-again : (d : Cursor) → CursorFits d page → d .waiting ≡ 0 → (r : Stepped) (ps' t' : List ℕ)
-      → toldStep N n k r ps' t' (atHand d page) ≡ step (walkAt N n (stand k ps) t) (atHand c page) → Lower r ps' → Again N n (afterStep r d) ps' t' page
+      → toldStep N n k r ps' t' (atHand d page) ≡ step (walkAt N n (stand k ps) t) (atHand c page) → Lower r ps' → Again N n c (afterStep r d) ps' t' page
   unfolding toldStep Lower Again
   goes-again d f z (stepped.On rank k') ps' t' e l =
       let w = walkAt N n (stand k ps) t in
@@ -131,9 +131,9 @@ module _ {N n k : ℕ} {ps : List ℕ} {c : Cursor} {t page : List ℕ} (y : Rea
     unfolding stepWith
     taking = stepping v (atHand c page) ∙ rw (x .tells)
 
-    pub turn-short : got ≡ taken.Short → Turns N n k ps c t page Waits ps t
+    pub turn-short : (m : ℕ) → got ≡ taken.Short m → Turns N n k ps c t page (Waits m) ps t
     unfolding toldTurn Again stepTaken told
-    turn-short e = record { tells = sym (taking ∙ rw e); again = tt }
+    turn-short m e = record { tells = sym (taking ∙ rw e); again = sym (rw e at (x .tells)) }
 
     pub turn-symbol : (s : Symbol) (d : Cursor) → got ≡ taken.Symbol s d → (r : Stepped) (ps' t' : List ℕ)
         → Steps N n k ps t (symbolStep j b (toldSymbol s)) r ps' t' → Turns N n k ps c t page (afterStep r d) ps' t'

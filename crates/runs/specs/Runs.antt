@@ -1,10 +1,10 @@
 -- A run as the code tells it: how it ends, and what it leaves.
-use Prim.Native.Nat.{ℕ, _≤_}
+use Prim.Native.Nat.{ℕ}
 use mathlib.Core.Path.{_≡_}
 use mathlib.Core.Bool.{Bool}
 use mathlib.Core.List.{List}
-use lib.ListN.{length}
 use Rattle.rules.specs.Walk.{Walk}
+use Rattle.rules.specs.Stream.{Taken, takeSymbol}
 use Rattle.rules.specs.Reading.{Run, runAll}
 use Rattle.rules.specs.Session.{walkAt}
 use Rattle.rules.specs.Inner.{Inv}
@@ -20,7 +20,7 @@ use Rattle.runs.specs.declared.Signal.the-variants.{Ended, Waits, Refuse
 -- a signal as the rules' run
 unfoldable pub signalRun : Signal → Walk → List Bool → Run
 signalRun Ended w bs = Run.ended w bs
-signalRun Waits w bs = Run.waits w bs
+signalRun (Waits k) w bs = Run.waits w bs
 signalRun (Refused nr) w bs = Run.refused nr w
 
 -- a run as the rules tell it
@@ -31,10 +31,10 @@ toldRun N n r t page = signalRun (r .signal) (walkAt N n (r .stand) t) (atHand (
 abbrev pub ranAt : Halted → List ℕ → Ran
 ranAt r ps = record { stand = stand (r .count) ps; cursor = r .cursor; signal = r .signal }
 
--- what a run leaves: no bit waits at the walk's end, and at most thirteen are left where it waits
+-- what a run leaves: no bit waits at the walk's end, and where it waits the bits left run out within a symbol, with so many to come
 pub record Runs (N n : ℕ) (s : Stand) (c : Cursor) (t page : List ℕ) (r : Ran) (t' : List ℕ) : Type 0 where
   pub tells : toldRun N n r t' page ≡ runAll (walkAt N n s t) (atHand c page)
   pub fits : CursorFits (r .cursor) page
   pub inv : Inv (walkAt N n (r .stand) t')
   pub clean : r .signal ≡ Ended → r .cursor .waiting ≡ 0
-  pub short : r .signal ≡ Waits → length (atHand (r .cursor) page) ≤ 13
+  pub short : (k : ℕ) → r .signal ≡ Waits k → takeSymbol (atHand (r .cursor) page) ≡ Taken.short k

@@ -3,7 +3,7 @@ use Prim.Native.Nat.{ℕ, _≤_}
 use mathlib.Core.Path.{_≡_}
 use mathlib.Core.Logic.{_⊎_}
 use mathlib.Core.List.{List}
-use Rattle.rules.specs.Stream.{bitsOf}
+use Rattle.rules.specs.Stream.{bitsOf, Taken, takeSymbol}
 use Rattle.rules.specs.Reading.{Run, Step, step}
 use Rattle.rules.specs.Session.{walkAt}
 use Rattle.rules.specs.Inner.{Emptied, Inv, Asks}
@@ -31,16 +31,16 @@ afterStep (stepped.Refused nr) c = Refused nr
 -- what a turn came to with k darts numbered and the cursor c, as the rules tell it, by the positions and tables after it
 unfoldable pub toldTurn : ℕ → ℕ → ℕ → Cursor → Turned → List ℕ → List ℕ → List ℕ → Step
 toldTurn N n k c (On rank k' d) ps t page = Step.goes (walkAt N n (stand k' ps) t) (atHand d page)
-toldTurn N n k c Waits ps t page = Step.stops (Run.waits (walkAt N n (stand k ps) t) (atHand c page))
+toldTurn N n k c (Waits m) ps t page = Step.stops (Run.waits (walkAt N n (stand k ps) t) (atHand c page))
 toldTurn N n k c (Refused nr) ps t page = Step.stops (Run.refused nr (walkAt N n (stand k ps) t))
 
--- where a turn goes on, its walk may be stepped, and the queues below the rank are empty
-unfoldable pub Again : ℕ → ℕ → Turned → List ℕ → List ℕ → List ℕ → Type 0
-Again N n (On rank k d) ps t page = Ready N n (stand k ps) d t page × Emptied k ps rank
-Again N n Waits ps t page = Unit
-Again N n (Refused nr) ps t page = Unit
+-- where a turn goes on, its walk may be stepped, and the queues below the rank are empty; where it waits the bits from c on run out within a symbol
+unfoldable pub Again : ℕ → ℕ → Cursor → Turned → List ℕ → List ℕ → List ℕ → Type 0
+Again N n c (On rank k d) ps t page = Ready N n (stand k ps) d t page × Emptied k ps rank
+Again N n c (Waits m) ps t page = takeSymbol (atHand c page) ≡ Taken.short m
+Again N n c (Refused nr) ps t page = Unit
 
 -- what a turn leaves
 pub record Turns (N n k : ℕ) (ps : List ℕ) (c : Cursor) (t page : List ℕ) (r : Turned) (ps' t' : List ℕ) : Type 0 where
   pub tells : toldTurn N n k c r ps' t' page ≡ step (walkAt N n (stand k ps) t) (atHand c page)
-  pub again : Again N n r ps' t' page
+  pub again : Again N n c r ps' t' page

@@ -14,17 +14,17 @@ ghost use Rattle.runs.specs.Turns.{afterStep, Ready, Turns};
 ghost use Rattle.runs.specs.Runs.{ranAt, Runs};
 
 // What a turn comes to: it goes on, with a rank below which all queues are empty, the count and the cursor, or it
-// waits for bits, or it is refused by a number.
+// waits for so many bits more at least, or it is refused by a number.
 pub enum Turned {
     On(usize, u16, Cursor),
-    Waits,
+    Waits(u32),
     Refused(u32),
 }
 
-// How a run ends.
+// How a run ends: at the walk's end, waiting for so many bits more at least, or refused by a number.
 pub enum Signal {
     Ended,
-    Waits,
+    Waits(u32),
     Refused(u32),
 }
 
@@ -81,7 +81,7 @@ pub fn asked(
         (now (positions .exit)) (now (tables .exit)) ⌝ }
 {
     match c.take_symbol(page) {
-        Taken::Short => Turned::Waits,
+        Taken::Short(bits) => Turned::Waits(bits),
         Taken::Symbol(s, d) => after(
             steps::by_symbol(tables, positions, dim, darts, count, j, b, s),
             d,
@@ -147,8 +147,8 @@ pub fn walk_on(
                     numbered = k;
                     cursor = d;
                 }
-                Turned::Waits => {
-                    return halt(numbered, cursor, Signal::Waits);
+                Turned::Waits(bits) => {
+                    return halt(numbered, cursor, Signal::Waits(bits));
                 }
                 Turned::Refused(number) => {
                     return halt(numbered, cursor, Signal::Refused(number));

@@ -5,6 +5,7 @@ use mathlib.Core.Bool.{cond}
 use Rattle.rules.specs.declared.CheckAnswer.{CheckAnswer}
 use Rattle.rules.specs.declared.WriteAnswer.{WriteAnswer}
 use Rattle.rules.specs.declared.ReadAnswer.{ReadAnswer}
+use Rattle.rules.specs.declared.PageAnswer.{PageAnswer}
 use Rattle.rules.specs.declared.ReportAnswer.{ReportAnswer}
 
 -- the check's answer: number, place
@@ -18,6 +19,10 @@ writeNumbers a = a .number ∷ a .place ∷ a .written ∷ a .length ∷ []
 -- a reading answer: number, place, steps, N, n
 abbrev pub readNumbers : ReadAnswer → List ℕ
 readNumbers a = a .number ∷ a .place ∷ a .steps ∷ a .dim ∷ a .darts ∷ []
+
+-- a page's answer: the reading's, then the bytes to fetch
+abbrev pub pageNumbers : PageAnswer → List ℕ
+pageNumbers a = readNumbers (a .reading) ++ (a .fetch ∷ [])
 
 -- the report's answer: number, place, the cells of ranks 0 to 6, free pairs, 1 for orientable
 unfoldable pub reportNumbers : ReportAnswer → List ℕ

@@ -1,5 +1,6 @@
 // The stored record and the stored answers: a session as fifteen numbers in a caller's own room, and an answer as its
 // numbers in order. Which number of a session stands where is known here and nowhere else.
+use rules::PageAnswer;
 use rules::ReadAnswer;
 use rules::ReportAnswer;
 use rules::Session;
@@ -7,7 +8,7 @@ use rules::State;
 ghost use mathlib.Core.Path.{_≡_};
 ghost use mathlib.Core.Bool.{true, cond};
 ghost use Rattle.rules.specs.Reading.{plainAnswer};
-ghost use Rattle.stored.specs.Answers.{readNumbers, reportNumbers};
+ghost use Rattle.stored.specs.Answers.{readNumbers, pageNumbers, reportNumbers};
 ghost use Rattle.stored.specs.Layout.{stateNumber, refusalNumber, refusalPlace, storedSession, stateBy};
 ghost use Rattle.stored.specs.Layout.{positionsBy, sessionBy, stateStands, afterBy, allNarrow, standing};
 
@@ -23,6 +24,9 @@ pub type Record = [u32; NUMBERS];
 // A reading's answer as stored: number, place, steps, N, n.
 pub type ReadRoom = [u32; 5];
 
+// A page's answer as stored: the reading's, and the bytes to fetch.
+pub type PageRoom = [u32; 6];
+
 // A reading's answer as stored.
 pub fn read_numbers(a: ReadAnswer) -> ReadRoom
     ensures { λ r. ⌜ r ≡ readNumbers a ⌝ }
@@ -30,17 +34,40 @@ pub fn read_numbers(a: ReadAnswer) -> ReadRoom
     [a.number, a.place, a.steps, a.dim, a.darts]
 }
 
-// The answer on a record that is no fit session.
-pub fn unfit_numbers() -> ReadRoom
-    ensures { λ r. ⌜ r ≡ readNumbers (plainAnswer 19 0) ⌝ }
+// A page's answer as stored.
+pub fn page_numbers(a: PageAnswer) -> PageRoom
+    ensures { λ r. ⌜ r ≡ pageNumbers a ⌝ }
 {
-    read_numbers(ReadAnswer {
+    let r = a.reading;
+    [r.number, r.place, r.steps, r.dim, r.darts, a.fetch]
+}
+
+// The answer on a record that is no fit session.
+pub fn unfit() -> ReadAnswer
+    ensures { λ r. ⌜ r ≡ plainAnswer 19 0 ⌝ }
+{
+    ReadAnswer {
         number: 19,
         place: 0,
         steps: 0,
         dim: 0,
         darts: 0,
-    })
+    }
+}
+
+// The same as stored.
+pub fn unfit_numbers() -> ReadRoom
+    ensures { λ r. ⌜ r ≡ readNumbers (plainAnswer 19 0) ⌝ }
+{
+    read_numbers(unfit())
+}
+
+// The same of a page: there is nothing to fetch.
+pub fn unfit_page_numbers() -> PageRoom
+    ensures { λ r. ⌜ r ≡ pageNumbers (record { reading = plainAnswer 19 0; fetch = 0 }) ⌝ }
+{
+    let reading = unfit();
+    page_numbers(PageAnswer { reading, fetch: 0 })
 }
 
 // 1 for true, 0 for false.

@@ -204,13 +204,13 @@ module _ (w x : ℕ) (l : x < 2 ^ w) where
         ap whole (first-bit (omega arith)) ∙ rw (is-one, second-bit h, e)
 
 -- the symbol by its size: bits run out, or N, B or w
-pub size-short : (bs : List Bool) → length bs < size bs → takeSymbol bs ≡ Taken.short
+pub size-short : (bs : List Bool) (k : ℕ) → length bs < size bs → k + length bs ≡ size bs → takeSymbol bs ≡ Taken.short k
 unfolding size takeSymbol takeIndex
-size-short [] h = refl
-size-short (false ∷ bs) h = absurd (omega arith)
-size-short (true ∷ []) h = refl
-size-short (true ∷ false ∷ bs) h = absurd (omega arith)
-size-short (true ∷ true ∷ bs) h = rw (lt-ltb (length bs) 12 (omega arith))
+size-short [] k h e = ap Taken.short (omega arith)
+size-short (false ∷ bs) k h e = absurd (omega arith)
+size-short (true ∷ []) k h e = ap Taken.short (omega arith)
+size-short (true ∷ false ∷ bs) k h e = absurd (omega arith)
+size-short (true ∷ true ∷ bs) k h e = rw (lt-ltb (length bs) 12 (omega arith)) (ap Taken.short (omega arith))
 
 pub size-new : (bs ys : List Bool) → size bs ≡ 1 → 1 ≤ length bs → takeSymbol (bs ++ ys) ≡ Taken.symbol Symbol.new (drop 1 (bs ++ ys))
 unfolding size takeSymbol

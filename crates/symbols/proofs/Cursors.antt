@@ -165,10 +165,10 @@ past-hand {c} {h} {page} r k d more most near after waiting value at bit =
 
 -- what the first bits at hand tell
 module _ (c : Cursor) (page : List ℕ) (bs ys : List Bool) (same : atHand c page ≡ bs ++ ys) where
-  -- too few, and no more
-  told-short : length bs < size bs → ys ≡ [] → SymbolTaken Taken.Short c page
+  -- too few, with k to come, and no more
+  told-short : (k : ℕ) → length bs < size bs → k + length bs ≡ size bs → ys ≡ [] → SymbolTaken (Taken.Short k) c page
   unfolding told PastSymbol
-  told-short l e = record { tells = sym (rw (same, e, append-nil bs) (size-short bs l)); past = tt }
+  told-short k l m e = record { tells = sym (rw (same, e, append-nil bs) (size-short bs k l m)); past = tt }
 
   -- a symbol of n bits, with the cursor d past it; the bits that wait are fewer if they begin a symbol
   module _ (n : ℕ) (e : size bs ≡ n) (l : n ≤ length bs) where
@@ -192,9 +192,11 @@ module _ {c : Cursor} {h : Hand} {page : List ℕ} (i : InHand c h page) where
   pub held-hand : h .bits ≤ length (atHand c page)
   held-hand = rw (i .same) (simp length-append (omega (arith, length-held (i .fits))))
 
-  pub hand-short : h .bits < size (held h) → length page ≤ h .at → SymbolTaken Taken.Short c page
+  pub hand-short : (k : ℕ) → h .bits < size (held h) → k + h .bits ≡ size (held h) → length page ≤ h .at → SymbolTaken (Taken.Short k) c page
   unfolding unpack
-  hand-short l e = told-short c page (held h) (unpack (drop (h .at) page)) (i .same) (omega (arith, length-held (i .fits))) (rw (drop-of-length-le page e))
+  hand-short k l m e =
+      let n = length-held (i .fits) in
+      told-short c page (held h) (unpack (drop (h .at) page)) (i .same) k (omega arith) (omega arith) (rw (drop-of-length-le page e))
 
 -- the same of the bits that wait: they hold a whole symbol, or the page has none to add
 module _ {c : Cursor} {page : List ℕ} (f : CursorFits c page) where
@@ -204,11 +206,13 @@ module _ {c : Cursor} {page : List ℕ} (f : CursorFits c page) where
       let n = length-bits (c .waiting) (c .value) in
       omega (arith, whole-none ws (omega (arith, f .few)) h k)
 
-  pub waits-short : c .waiting < size (bitsOf (c .waiting) (c .value)) → length page ≤ c .at → SymbolTaken Taken.Short c page
+  pub waits-short : (k : ℕ) → c .waiting < size (bitsOf (c .waiting) (c .value)) → k + c .waiting ≡ size (bitsOf (c .waiting) (c .value))
+      → length page ≤ c .at → SymbolTaken (Taken.Short k) c page
   unfolding atHand unpack
-  waits-short l e =
+  waits-short k l m e =
       let ws = bitsOf (c .waiting) (c .value) in
-      told-short c page ws (drop (c .bit) (unpack (drop (c .at) page))) refl (omega (arith, length-bits (c .waiting) (c .value)))
+      let n = length-bits (c .waiting) (c .value) in
+      told-short c page ws (drop (c .bit) (unpack (drop (c .at) page))) refl k (omega arith) (omega arith)
       (rw (drop-of-length-le page e) (drop-nil (c .bit)))
 
   pub waits-symbol : (d : Cursor) (s : Symbol) (n : ℕ) → whole (bitsOf (c .waiting) (c .value)) ≡ n → 1 ≤ n

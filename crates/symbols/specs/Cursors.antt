@@ -31,7 +31,7 @@ pub record Past (k : ℕ) (c d : Cursor) (page : List ℕ) : Type 0 where
 
 -- a symbol told, and the bits at hand after it
 unfoldable pub told : Taken → List ℕ → stream.Taken
-told taken.Short page = stream.Taken.short
+told (taken.Short k) page = stream.Taken.short k
 told (taken.Symbol s d) page = stream.Taken.symbol (toldSymbol s) (atHand d page)
 
 -- the cursor d past a symbol from c fits, and if the bits that waited begin a symbol, none waits any more
@@ -41,7 +41,7 @@ pub record PastCode (c d : Cursor) (page : List ℕ) : Type 0 where
 
 -- the cursor past a symbol, if there is one
 unfoldable pub PastSymbol : Taken → Cursor → List ℕ → Type 0
-PastSymbol taken.Short c page = Unit
+PastSymbol (taken.Short k) c page = Unit
 PastSymbol (taken.Symbol s d) c page = PastCode c d page
 
 -- a symbol was taken from the bits at hand

@@ -82,7 +82,7 @@ pub record Reads (c : Cursor) (h : Hand) (page : List ℕ) : Type 0 where
 
 -- how a symbol begins: taken or told to be short as it is, or in a hand
 unfoldable pub Starts : First → Cursor → List ℕ → Type 0
-Starts first.Out c page = SymbolTaken taken.Short c page
+Starts (first.Out k) c page = SymbolTaken (taken.Short k) c page
 Starts (first.New d) c page = SymbolTaken (taken.Symbol symbol.New d) c page
 Starts (first.Border d) c page = SymbolTaken (taken.Symbol symbol.Border d) c page
 Starts (first.Is h) c page = Needed h × Reads c h page

@@ -28,18 +28,18 @@ pub struct Hand {
     pub at: usize,
 }
 
-// How a symbol begins: bits ran out, or those that wait hold it whole, with the cursor past it, or they and those of
-// the cursor's byte are in a hand.
+// How a symbol begins: bits ran out, with how many more could at least finish it, or those that wait hold it whole, with
+// the cursor past it, or they and those of the cursor's byte are in a hand.
 pub enum First {
-    Out,
+    Out(u32),
     New(Cursor),
     Border(Cursor),
     Is(Hand),
 }
 
-// The next symbol, with the cursor past it, or that bits ran out.
+// The next symbol, with the cursor past it, or bits ran out, with how many more could at least finish it.
 pub enum Taken {
-    Short,
+    Short(u32),
     Symbol(Symbol, Cursor),
 }
 
@@ -64,6 +64,14 @@ impl Hand {
             return 2;
         }
         14
+    }
+
+    // How many more bits could at least finish the symbol.
+    pub fn missing(self) -> u32
+        requires { ⌜ (self .head < 2 ^ 24) × (self .bits ≤ size (bitsOf 24 (self .head))) ⌝ }
+        ensures { λ r. ⌜ r + self .bits ≡ size (bitsOf 24 (self .head)) ⌝ }
+    {
+        self.size() - self.bits
     }
 
     // With the page's next byte, from one of its bits on. This is the one look at the page.
@@ -114,13 +122,13 @@ impl Hand {
         let mut hand = self;
         if self.bits < 14 {
             if page.len() <= self.at {
-                return Taken::Short;
+                return Taken::Short(self.missing());
             }
             hand = self.loaded(0, page);
         }
         if hand.bits < 14 {
             if page.len() <= hand.at {
-                return Taken::Short;
+                return Taken::Short(hand.missing());
             }
             hand = hand.loaded(0, page);
         }
@@ -140,7 +148,7 @@ impl Hand {
         let mut hand = self;
         if self.bits < 2 {
             if page.len() <= self.at {
-                return Taken::Short;
+                return Taken::Short(self.missing());
             }
             hand = self.loaded(0, page);
         }
@@ -224,7 +232,7 @@ impl Cursor {
         let at = self.at;
         if self.waiting == 0 {
             if page.len() <= at {
-                return First::Out;
+                return First::Out(1);
             }
             return First::Is(self.here(page));
         }
@@ -235,10 +243,10 @@ impl Cursor {
         if whole == 2 {
             return First::Border(self.fewer(2));
         }
-        if page.len() <= at {
-            return First::Out;
-        }
         let waits = self.waits();
+        if page.len() <= at {
+            return First::Out(waits.missing());
+        }
         let here = self.here(page);
         First::Is(waits.then(here))
     }
@@ -249,7 +257,7 @@ impl Cursor {
         ensures { λ r. ⌜ SymbolTaken r self (now (page .entry)) ⌝ }
     {
         match self.first(page) {
-            First::Out => Taken::Short,
+            First::Out(bits) => Taken::Short(bits),
             First::New(c) => Taken::Symbol(Symbol::New, c),
             First::Border(c) => Taken::Symbol(Symbol::Border, c),
             First::Is(hand) => hand.take(page),

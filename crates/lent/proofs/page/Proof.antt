@@ -41,18 +41,17 @@ use denote.Triple.Table.{entered, cited}
 use denote.Triple.Walked.{says, Stays, stay-ref, stay-dropped, gave-slice, walkOf, goes-ref, goes-dropped, goes-gave-slice, Walks, ends-at, walked, walk-meets}
 use denote.Exit.{yes}
 use denote.Signature.{plain, shrSliceOf}
-use Rattle.rules.specs.Session.{page}
-use Rattle.records.specs.Lefts.{leftBy}
-use Rattle.lent.specs.Lent.{lentBy}
+use Rattle.rules.specs.Fetch.{pageCall}
+use Rattle.lent.specs.Lent.{pageLentBy}
 use Rattle.rules.specs.declared.Session.{Session}
-use Rattle.rules.specs.declared.ReadAnswer.{ReadAnswer}
-use Rattle.records.specs.declared.Paged.{Paged}
+use Rattle.rules.specs.declared.PageAnswer.{PageAnswer}
+use Rattle.records.specs.declared.Fetching.{Fetching}
 use Rattle.rules.proofs.Session as S
 use Rattle.rules.proofs.Session.Laws as S′
-use Rattle.rules.proofs.ReadAnswer as B
-use Rattle.rules.proofs.ReadAnswer.Laws as B′
-use Rattle.records.proofs.Paged as P
-use Rattle.records.proofs.Paged.Laws as P′
+use Rattle.rules.proofs.PageAnswer as B
+use Rattle.rules.proofs.PageAnswer.Laws as B′
+use Rattle.records.proofs.Fetching as P
+use Rattle.records.proofs.Fetching.Laws as P′
 use Rattle.reader.proofs.page as valued
 use Rattle.reader.proofs.page.Symbol as valued-def
 use Rattle.reader.proofs.page.Symbol.{name as #reader·page}
@@ -76,8 +75,8 @@ abbrev Page : {M : Type 1} (𝓤 : URA M) (H : Heap 𝓤) (A : Atoms 𝓤) (mem 
 Page 𝓤 H A mem run = tripleOf 𝓤 H A valued.signature (valued.spec 𝓤 H A mem run)
 
 -- what both contracts say: of the record at entry, the bytes, the tables at entry, the record at exit, the answer and the tables at exit
-abbrev Says : Session → List ℕ → List ℕ → Session → ReadAnswer → List ℕ → Type 0
-Says d bs ts d′ a zs = lentBy d′ a zs ≡ page d bs ts
+abbrev Says : Session → List ℕ → List ℕ → Session → PageAnswer → List ℕ → Type 0
+Says d bs ts d′ a zs = pageLentBy d′ a zs ≡ pageCall d bs ts
 
 module _ {M : Type 1} (𝓤 : URA M) (H : Heap 𝓤) (A : Atoms 𝓤) (W : Given 𝓤 H A) (at-mem : Memory → SProp 𝓤) (run : Routine → Fun 𝓤) (κ κ₁ κ₂ : Lft)
     (q q₁ q₂ : Share) (b o : ℕ) (γ : GName) (d : Session) (bs ts : RefT (List ℕ)) where
@@ -97,7 +96,7 @@ module _ {M : Type 1} (𝓤 : URA M) (H : Heap 𝓤) (A : Atoms 𝓤) (W : Given
   abbrev machS : Session → Val
   machS h = LL.tuple-val S.the-type S′.the-laws (S.the-type .to h)
 
-  abbrev machB : ReadAnswer → Val
+  abbrev machB : PageAnswer → Val
   machB h = LL.tuple-val B.the-type B′.the-laws (B.the-type .to h)
 
   abbrev Post : Val → SProp 𝓤
@@ -115,7 +114,7 @@ module _ {M : Type 1} (𝓤 : URA M) (H : Heap 𝓤) (A : Atoms 𝓤) (W : Given
       move ! (1 ∷ []) $ owned ! S.the-row (Is S.the-row) (LL.makes S.the-type S′.the-plain 𝓤 H A) d _ g $ fjoin ! $ move ! (1 ∷ 0 ∷ []) $ join ! $
       frame ! $ done !
 
-  exits : (r : Paged) (zs : List ℕ) → Is B.the-row (r .answer) (machB (r .answer) ∷ []) → Says d (bs .now) (ts .now) (r .session) (r .answer) zs
+  exits : (r : Fetching) (zs : List ℕ) → Is B.the-row (r .answer) (machB (r .answer) ∷ []) → Says d (bs .now) (ts .now) (r .session) (r .answer) zs
       → length zs ≡ length (ts .now)
       → ent 𝓤 (⋆ 𝓤 H A (‵ (fobs γ (S.the-row .coded .code (r .session))) ∷ ‵ (fbor κ (Body (mem S.the-row) b o γ)) ∷ ‵ (flft κ q) ∷
       (‵ (flft κ₁ q₁) ⊛ ‵ (flft κ₂ q₂) ⊛ ‵ ftrue) ∷ ‵ (finally u16 (ts .name) zs) ∷ [])) (Post (machB (r .answer)))
@@ -131,7 +130,6 @@ module _ {M : Type 1} (𝓤 : URA M) (H : Heap 𝓤) (A : Atoms 𝓤) (W : Given
   module _ (C : Calls 𝓤 H) (Λ : Loops 𝓤 H) (fm : FmC 𝓤 H (W .laws) C) (known : Triple 𝓤 (C #reader·page) (Page 𝓤 H A at-mem run)) where
     walk : Room u8 (length (bs .now)) → Room u16 (length (ts .now))
         → ent 𝓤 (onEntry 𝓤 H A lent.signature (κ, (κ₁, (κ₂, tt))) (q, (q₁, (q₂, tt))) a vals) (WpFn 𝓤 H C Λ code.function (vptr b o ∷ sb ∷ st ∷ []) Post)
-    unfolding leftBy
     walk rb rt =
         qed W ((‵ (flft κ q) ⊛ ‵ (flft κ₁ q₁) ⊛ ‵ (flft κ₂ q₂) ⊛ ‵ ftrue) ∷ ‵
         (owns (MutRef (named 0) κ S.the-row ∷ ShrSlice (named 1) κ₁ u8 ∷ MutSlice (named 2) κ₂ u16 ∷ []) a vals) ∷ []) ∵ enter ! C Λ code.function
@@ -157,7 +155,7 @@ module _ {M : Type 1} (𝓤 : URA M) (H : Heap 𝓤) (A : Atoms 𝓤) (W : Given
         calls-at ! fm (Page 𝓤 H A at-mem run) known to-page
         (and-then ! (load ! (from ! (stop !)) (look ! 10 refl))
         (and-then ! (load ! (from ! (stop !)) (look ! 16 refl)) (and-then ! (load ! (from ! (stop !)) (look ! 6 refl)) (no-more !)))) (λ w.
-        use1 W (later (some (λ (r : Paged). ((‵ (flft κ₁ q₁) ⊛ ‵ (flft κ₂ q₂) ⊛ ‵ ftrue) ⊛ ‵ (P.the-row .own r (w ∷ []))) ⊛ raw
+        use1 W (later (some (λ (r : Fetching). ((‵ (flft κ₁ q₁) ⊛ ‵ (flft κ₂ q₂) ⊛ ‵ ftrue) ⊛ ‵ (P.the-row .own r (w ∷ []))) ⊛ raw
         (ensured 𝓤 H A valued.ended (valued.clauses 𝓤 H A at-mem run) (κ₁, (κ₂, tt)) (d, (bs, (ts, tt))) tt r)))) (id⊢ 𝓤 _) $ await ! tt $ pick ! (λ r.
         split ! $ move ! (1 ∷ []) $ use1 W (some (λ (zs : Unit {0} × (Unit {0} × (List ℕ × Unit {0}))). ‵
         (lasts valued.ended (κ₁, (κ₂, tt)) (d, (bs, (ts, tt))) zs) ⊛ raw (fact 𝓤 (Says d (bs .now) (ts .now) (r .session) (r .answer) (zs .1 .1 .0)))))

@@ -5,7 +5,9 @@ use mathlib.Core.Logic.{inl, inr}
 use native.Mathlib.Omega.{arith}
 use Rattle.reader.specs.Calls.{headed}
 use Rattle.rules.proofs.Readings.{fits-dim}
+use Rattle.records.proofs.Fetches.{fetches-at}
 use Rattle.reader.proofs.Laws.{unfit-dim, begin-dim, begin-room, begin-walk, fresh-hand, size-small, size-is, begin-blank, begin-ready}
+use Rattle.reader.proofs.Laws.{refused-none}
 use Rattle.reader.proofs.begin.Statement.{statement}
 use Rattle.reader.proofs.begin.Tie as tie
 
@@ -38,16 +40,26 @@ add-darts-2 c = search needs
 refused-requires : tie.Need-refused-requires
 refused-requires c κs = search needs
 
+asking-requires : tie.Need-asking-requires
+asking-requires c κs = search needs
+
 returns : tie.Need-returns
 unfolding headed
-returns c = begin-dim _ _ _ _ _ (c .refused .ensures .0) (c .refused .ensures .1) (unfit-dim _ (inl (c .before .if1 .taken)))
+returns c =
+    let r = c .before .refused .ensures in
+    fetches-at _ _ _ _ (c .asking .ensures) (begin-dim _ _ _ _ _ (r .0) (r .1) (unfit-dim _ (inl (c .before .before .if1 .taken)))) (refused-none _ 1 0 (r .0))
 
 refused-requires-2 : tie.Need-refused-requires-2
 refused-requires-2 c κs = search needs
 
+asking-requires-2 : tie.Need-asking-requires-2
+asking-requires-2 c κs = search needs
+
 returns-2 : tie.Need-returns-2
 unfolding headed
-returns-2 c = begin-dim _ _ _ _ _ (c .refused2 .ensures .0) (c .refused2 .ensures .1) (unfit-dim _ (inr (c .before .if2 .taken)))
+returns-2 c =
+    let r = c .before .refused2 .ensures in
+    fetches-at _ _ _ _ (c .asking2 .ensures) (begin-dim _ _ _ _ _ (r .0) (r .1) (unfit-dim _ (inr (c .before .before .if2 .taken)))) (refused-none _ 1 0 (r .0))
 
 add-size : tie.Need-add-size
 add-size c = search needs
@@ -60,11 +72,16 @@ mul-size c =
 refused-requires-3 : tie.Need-refused-requires-3
 refused-requires-3 c κs = search needs
 
+asking-requires-3 : tie.Need-asking-requires-3
+asking-requires-3 c κs = search needs
+
 returns-3 : tie.Need-returns-3
 unfolding headed
 returns-3 c =
-    begin-room _ _ _ _ _ (c .refused3 .ensures .0) (c .refused3 .ensures .1) (fits-dim _ (omega arith) (omega arith))
-    (rw (size-is _ _) at (c .before .if3 .taken))
+    let r = c .before .refused3 .ensures in
+    fetches-at _ _ _ _ (c .asking3 .ensures)
+    (begin-room _ _ _ _ _ (r .0) (r .1) (fits-dim _ (omega arith) (omega arith)) (rw (size-is _ _) at (c .before .before .if3 .taken)))
+    (refused-none _ 3 0 (r .0))
 
 blank-requires : tie.Need-blank-requires
 blank-requires c κs = search needs
@@ -85,8 +102,12 @@ returns-4 c =
     let b = g .before .before .before .before in
     let o = b .before .before in
     let e = o .before in
-    begin-walk _ _ _ _ _ _ _ _ _ (begin-blank _ _ _ _ (b .blank .ensures)) (g .go-on .ensures) (fresh-hand _ _) (dims e) (darts e)
-    (rw (size-is _ _) at (o .if3 .left))
+    let r = g .go-on .ensures in
+    record {
+      left = begin-walk _ _ _ _ _ _ _ _ _ (begin-blank _ _ _ _ (b .blank .ensures)) (r .left) (fresh-hand _ _) (dims e) (darts e)
+          (rw (size-is _ _) at (o .if3 .left));
+      fetch = r .fetch;
+    }
 
 pub begin-spec : {M : Type 1} → statement M
 begin-spec =
@@ -98,12 +119,15 @@ begin-spec =
     add-darts
     add-darts-2
     refused-requires
+    asking-requires
     returns
     refused-requires-2
+    asking-requires-2
     returns-2
     add-size
     mul-size
     refused-requires-3
+    asking-requires-3
     returns-3
     blank-requires
     go-on-requires

@@ -1,7 +1,7 @@
 -- `reader::page_header` meets its contract: by what waits and how long the page is. Assumes nothing.
 use borrow.Author.Needs.{needs}
 use native.Mathlib.Omega.{arith}
-use Rattle.reader.proofs.Laws.{header-none, header-one, header-kept, header-two, header-last, waits-byte}
+use Rattle.reader.proofs.Laws.{header-none, header-one, header-kept, header-two, header-last, header-fetches, waits-byte}
 use Rattle.reader.proofs.page_header.Statement.{statement}
 use Rattle.reader.proofs.page_header.Tie as tie
 
@@ -18,7 +18,7 @@ header-waits-requires c κs = search needs
 returns : tie.Need-returns
 returns c =
     let k = c .before .before in
-    header-none _ (none k .args .s) _ _ (k .if1 .taken) (c .before .if2 .taken) (c .header-waits .ensures .0) (c .header-waits .ensures .1)
+    header-fetches _ _ _ (c .header-waits .ensures) _ (λ e f. header-none _ (none k .args .s) _ _ (k .if1 .taken) (c .before .if2 .taken) e f)
 
 shared-slice-read-header-waits : tie.Need-shared-slice-read-header-waits
 shared-slice-read-header-waits c = search needs
@@ -36,7 +36,7 @@ returns-2 c =
     let m = c .before .before in
     let k = m .before .before in
     let x = c .before .shared-slice-known2 .given 0 in
-    header-one _ (none k .args .s) _ _ (k .if1 .taken) (m .if3 .taken) (omega arith) (c .header-waits2 .ensures .0) (c .header-waits2 .ensures .1)
+    header-fetches _ _ _ (c .header-waits2 .ensures) _ (λ e f. header-one _ (none k .args .s) _ _ (k .if1 .taken) (m .if3 .taken) (omega arith) e f)
 
 shared-slice-read-begin : tie.Need-shared-slice-read-begin
 shared-slice-read-begin c = search needs
@@ -56,7 +56,8 @@ returns-3 c =
     let k = m .before .before .before .before in
     let x = m .shared-slice-known4 .given 0 in
     let y = m .shared-slice-known4 .given 1 in
-    header-two _ (none k .args .s) _ _ _ (k .if1 .taken) (omega arith) (omega arith) (omega arith) (c .before .before .begin .ensures)
+    let r = c .before .before .begin .ensures in
+    record { left = header-two _ (none k .args .s) _ _ _ (k .if1 .taken) (omega arith) (omega arith) (omega arith) (r .left); fetch = r .fetch }
 
 header-waits-requires-3 : tie.Need-header-waits-requires-3
 header-waits-requires-3 c κs = search needs
@@ -65,8 +66,8 @@ returns-4 : tie.Need-returns-4
 returns-4 c =
     let k = c .before .before in
     let s = eight k in
-    header-kept _ (s .args .s) _ _ (waits-byte _ (s .pre .0) (k .if1 .left)) (c .before .if4 .taken) (s .pre .1)
-    (c .header-waits3 .ensures .0) (c .header-waits3 .ensures .1)
+    header-fetches _ _ _ (c .header-waits3 .ensures) _
+    (λ e f. header-kept _ (s .args .s) _ _ (waits-byte _ (s .pre .0) (k .if1 .left)) (c .before .if4 .taken) (s .pre .1) e f)
 
 cast-begin : tie.Need-cast-begin
 cast-begin c = search needs
@@ -86,7 +87,11 @@ returns-5 c =
     let k = m .before .before .before in
     let s = eight k in
     let x = m .shared-slice-known5 .given 0 in
-    header-last _ (s .args .s) _ _ _ (waits-byte _ (s .pre .0) (k .if1 .left)) (omega arith) (s .pre .1) (omega arith) (c .before .before .begin2 .ensures)
+    let r = c .before .before .begin2 .ensures in
+    record {
+      left = header-last _ (s .args .s) _ _ _ (waits-byte _ (s .pre .0) (k .if1 .left)) (omega arith) (s .pre .1) (omega arith) (r .left);
+      fetch = r .fetch;
+    }
 
 pub page-header-spec : {M : Type 1} → statement M
 page-header-spec =

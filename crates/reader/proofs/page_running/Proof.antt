@@ -30,7 +30,8 @@ returns : tie.Need-returns
 returns c =
     let g = c .before .before in
     let k = g .before .before .before .before in
-    running-goes _ (start k .args .s) _ (k .stand-of .ensures) _ _ _ (g .go-on .ensures)
+    let r = g .go-on .ensures in
+    record { left = running-goes _ (start k .args .s) _ (k .stand-of .ensures) _ _ _ (r .left); fetch = r .fetch }
 
 pub page-running-spec : {M : Type 1} → statement M
 page-running-spec =

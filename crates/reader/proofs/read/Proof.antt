@@ -13,7 +13,7 @@ page-header-requires c κs = opened-bits _ (c .before .«open» .ensures)
 close-fit-requires : tie.Need-close-fit-requires
 close-fit-requires c κs =
     let m = c .before .before .before .before in
-    read-fit _ _ _ _ _ (m .before .before .«open» .ensures) (m .page-header .ensures)
+    read-fit _ _ _ _ _ (m .before .before .«open» .ensures) (m .page-header .ensures .left)
 
 same-length : tie.Need-same-length
 same-length c = search needs
@@ -22,7 +22,7 @@ returns : tie.Need-returns
 returns c =
     let k = c .before .before .before in
     let m = k .before .before .before .before .before in
-    read-closed _ _ _ _ _ (m .before .before .«open» .ensures) (m .page-header .ensures) _ _ (k .close-fit .ensures)
+    read-closed _ _ _ _ _ (m .before .before .«open» .ensures) (m .page-header .ensures .left) _ _ (k .close-fit .ensures)
 
 pub read-spec : {M : Type 1} → statement M
 read-spec =

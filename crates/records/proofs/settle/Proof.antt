@@ -1,5 +1,6 @@
 -- `records::settle` meets its contract: by the run's signal. Assumes nothing.
 use borrow.Author.Needs.{needs}
+use Rattle.rules.proofs.Readings.{short-begins, begins-13}
 use Rattle.records.proofs.Lefts.{running-left, settled-refused, settled-ended, settled-waits}
 use Rattle.records.proofs.settle.Statement.{statement}
 use Rattle.records.proofs.settle.Tie as tie
@@ -28,7 +29,7 @@ enum-told-2 c = search needs
 rest-requires : tie.Need-rest-requires
 rest-requires c κs =
     let p = start (c .before .before) .pre in
-    (p .fits, p .short (c .enum-told2 .given .1))
+    (p .fits, begins-13 _ (short-begins _ _ (p .short _ (c .enum-told2 .given .1))))
 
 held-requires : tie.Need-held-requires
 held-requires c κs = search needs
@@ -53,7 +54,7 @@ returns-3 : tie.Need-returns-3
 returns-3 c =
     let x = c .before .rest .ensures in
     let y = c .held .ensures in
-    settled-waits _ _ _ _ _ (c .before .before .enum-told2 .given .1) (running-left _ _ _ _ _ (y .1) _ _ _ (x .0) (x .1) (y .0))
+    settled-waits _ _ _ _ _ _ (c .before .before .enum-told2 .given .1) (running-left _ _ _ _ _ (y .1) _ _ _ (x .0) (x .1) (y .0))
 
 pub settle-spec : {M : Type 1} → statement M
 settle-spec =

@@ -11,8 +11,8 @@ start c = c .before .before .before .before
 take-symbol-requires : tie.Need-take-symbol-requires
 take-symbol-requires c κs = search needs
 
-enum-told : tie.Need-enum-told
-enum-told c = search needs
+enum-known-bits : tie.Need-enum-known-bits
+enum-known-bits c = search needs
 
 enum-known-s : tie.Need-enum-known-s
 enum-known-s c = search needs
@@ -25,8 +25,8 @@ after-requires c κs = search needs
 
 returns : tie.Need-returns
 returns c =
-    let k = c .before .before in
-    turn-short (start k .pre .0) (start k .pre .1) _ (k .take-symbol .ensures) (c .enum-told .given .1)
+    let k = c .before .before .before in
+    turn-short (start k .pre .0) (start k .pre .1) _ (k .take-symbol .ensures) _ (c .before .bits .given .1)
 
 same-length : tie.Need-same-length
 same-length c = search needs
@@ -47,7 +47,7 @@ asked-spec =
     tie.close
     (tie.spec
     take-symbol-requires
-    enum-told
+    enum-known-bits
     enum-known-s
     by-symbol-requires
     after-requires

@@ -73,8 +73,8 @@ loop-again-2 c =
     let (g, e) = going-more (at-turn m .loop .inv .0) (m .turn .ensures) (c .before .next .given .1) (search needs) in
     (g, e, search needs)
 
-enum-told : tie.Need-enum-told Inv-loop μ-loop
-enum-told c = search needs
+enum-known-bits : tie.Need-enum-known-bits Inv-loop μ-loop
+enum-known-bits c = search needs
 
 halt-requires : tie.Need-halt-requires Inv-loop μ-loop
 halt-requires c κs = search needs
@@ -87,8 +87,8 @@ same-length-2 c = search needs
 
 returns : tie.Need-returns Inv-loop μ-loop
 returns c =
-    let m = made (c .before .before .before) in
-    rw (c .halt .ensures) (run-waits (at-turn m .loop .inv .0) (m .turn .ensures) (c .before .enum-told .given .1))
+    let m = made (c .before .before .before .before) in
+    rw (c .halt .ensures) (run-waits (at-turn m .loop .inv .0) (m .turn .ensures) _ (c .before .before .bits .given .1))
 
 enum-known-number : tie.Need-enum-known-number Inv-loop μ-loop
 enum-known-number c = search needs
@@ -137,7 +137,7 @@ walk-on-spec =
     enum-known-next
     loop-less-2
     loop-again-2
-    enum-told
+    enum-known-bits
     halt-requires
     same-length
     same-length-2

@@ -5,7 +5,7 @@ use Rattle.symbols.proofs.Cursor.take_symbol.Statement.{statement}
 use Rattle.symbols.proofs.Cursor.take_symbol.Tie as tie
 
 -- the hand that it begins in
-begun : (c : tie.After-known-told3) → let a = c .before .before .before .before .before .args in
+begun : (c : tie.After-known-told4) → let a = c .before .before .before .before .before .args in
     let h = c .before .hand .given .0 .0 in Needed h × Reads (a .self) h (a .page .now)
 unfolding Starts
 begun c = rw (c .before .hand .given .1) at (c .before .before .before .first .ensures)
@@ -13,8 +13,8 @@ begun c = rw (c .before .hand .given .1) at (c .before .before .before .first .e
 first-requires : tie.Need-first-requires
 first-requires c κs = search needs
 
-enum-told : tie.Need-enum-told
-enum-told c = search needs
+enum-known-bits : tie.Need-enum-known-bits
+enum-known-bits c = search needs
 
 enum-known-c : tie.Need-enum-known-c
 enum-known-c c = search needs
@@ -30,7 +30,7 @@ take-requires c κs = let (n, r) = begun c in (r .inHand .fits, n)
 
 returns : tie.Need-returns
 unfolding Starts
-returns c = rw (c .enum-told .given .1) at (c .before .before .first .ensures)
+returns c = rw (c .before .bits .given .1) at (c .before .before .before .first .ensures)
 
 returns-2 : tie.Need-returns-2
 unfolding Starts
@@ -48,7 +48,7 @@ take-symbol-spec =
     tie.close
     (tie.spec
     first-requires
-    enum-told
+    enum-known-bits
     enum-known-c
     enum-known-c-2
     enum-known-hand

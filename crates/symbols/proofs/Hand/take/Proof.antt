@@ -55,10 +55,17 @@ returns c = λ d r.
     let l : 1 ≤ length (held (c .before .before .before .before .args .self)) = omega (arith, length-held f, n .some) in
     told-symbol d _ _ _ (r .inHand .same) 1 e l _ New (size-new _ _ e l) (c .past .ensures d _ r (omega (arith, r .longer)))
 
+missing-requires : tie.Need-missing-requires
+missing-requires c κs =
+    let f = c .before .before .before .before .before .before .before .pre .0 in
+    let k = longer (c .before .before .before .before) in
+    (head-small f, omega (arith, c .before .before .if2 .taken, head-size f))
+
 returns-2 : tie.Need-returns-2
 returns-2 c = λ d r.
-    let k = longer (c .before .before .before .before) in
-    hand-short (r .inHand) (omega (arith, c .before .before .if2 .taken)) (c .if3 .taken)
+    let f = c .before .before .before .before .before .before .before .before .pre .0 in
+    let k = longer (c .before .before .before .before .before) in
+    hand-short (r .inHand) _ (omega (arith, c .before .before .before .if2 .taken)) (c .missing .ensures ∙ head-size f) (c .before .if3 .taken)
 
 loaded-requires : tie.Need-loaded-requires
 loaded-requires c κs = search needs
@@ -100,6 +107,7 @@ take-spec =
     size-requires
     past-requires
     returns
+    missing-requires
     returns-2
     loaded-requires
     size-requires-2

@@ -1,6 +1,6 @@
 -- `symbols::Hand::take_index` meets its contract: two bits are at hand, so one byte more or two make fourteen. Assumes nothing.
 use Prim.Native.Nat.{_≤_}
-use mathlib.Core.Path.{_≡_}
+use mathlib.Core.Path.{_≡_, _∙_}
 use mathlib.Core.Logic.{⊎-elim}
 use native.Mathlib.Omega.{arith}
 use borrow.Author.Needs.{needs}
@@ -9,7 +9,7 @@ use Rattle.rules.specs.declared.Symbol.the-variants.{Index}
 use Rattle.rules.specs.Stream.{unpack}
 use Rattle.symbols.specs.Hands.{size, held}
 use Rattle.symbols.proofs.Bits.{size-wide, size-index}
-use Rattle.symbols.proofs.Hands.{length-held, head-small, head-wide, head-walk}
+use Rattle.symbols.proofs.Hands.{length-held, head-size, head-small, head-wide, head-walk}
 use Rattle.symbols.proofs.Cursors.{Grown, grown-none, grown-more, more-wide, hand-short, told-symbol}
 use Rattle.symbols.proofs.Hand.take_index.Statement.{statement}
 use Rattle.symbols.proofs.Hand.take_index.Tie as tie
@@ -30,18 +30,29 @@ one-more c =
     (λ w. rw (w .1) (o, e, omega (arith, w .0 .left)))
     (c .if1 .came)
 
+missing-requires : tie.Need-missing-requires
+missing-requires c κs =
+    let p = c .before .before .before .before .before .pre in
+    (head-small (p .0), omega (arith, c .before .before .if1 .taken, head-size (p .0), p .2))
+
 returns : tie.Need-returns
 returns c = λ d r.
-    let e = c .before .before .before .before .before .pre .2 in
-    hand-short (r .inHand) (omega (arith, c .before .before .if1 .taken)) (c .if2 .taken)
+    let p = c .before .before .before .before .before .before .pre in
+    let e = p .2 in
+    hand-short (r .inHand) _ (omega (arith, c .before .before .before .if1 .taken)) (c .missing .ensures ∙ head-size (p .0)) (c .before .if2 .taken)
 
 loaded-requires : tie.Need-loaded-requires
 loaded-requires c κs = search needs
 
+missing-requires-2 : tie.Need-missing-requires-2
+missing-requires-2 c κs =
+    let (o, e, m) = one-more (c .before .before .before .before) in
+    (head-small (o .fits), omega (arith, c .before .before .if3 .taken, head-size (o .fits)))
+
 returns-2 : tie.Need-returns-2
 returns-2 c = λ d r.
-    let (o, e, m) = one-more (c .before .before .before .before) in
-    hand-short (o .reads d r .inHand) (omega (arith, c .before .before .if3 .taken)) (c .if4 .taken)
+    let (o, e, m) = one-more (c .before .before .before .before .before) in
+    hand-short (o .reads d r .inHand) _ (omega (arith, c .before .before .before .if3 .taken)) (c .missing2 .ensures ∙ head-size (o .fits)) (c .before .if4 .taken)
 
 -- with a second one, if it takes two
 two-more : (c : tie.Joined3) → let a = c .before .before .before .before .before .args in
@@ -62,11 +73,11 @@ loaded-requires-2 c κs =
     let o = one-more (c .before .before .before .before) .0 in
     (o .fits, omega (arith, c .before .before .if3 .taken), c .if4 .left, omega arith)
 
-sub-t11 : tie.Need-sub-t11
-sub-t11 c = let (o, e, m) = two-more (c .before) in omega (arith, head-wide (o .fits) e)
+sub-t13 : tie.Need-sub-t13
+sub-t13 c = let (o, e, m) = two-more (c .before) in omega (arith, head-wide (o .fits) e)
 
-cast-t12 : tie.Need-cast-t12
-cast-t12 c = let o = two-more (c .before) .0 in omega (arith, head-small (o .fits))
+cast-t14 : tie.Need-cast-t14
+cast-t14 c = let o = two-more (c .before) .0 in omega (arith, head-small (o .fits))
 
 past-requires : tie.Need-past-requires
 past-requires c κs =
@@ -86,4 +97,4 @@ returns-3 c = λ d r.
     told-symbol d page (held h) (unpack (drop (h .at) page)) (q .inHand .same) 14 e l _ (Index _) t (c .past .ensures d page q (omega (arith, q .longer)))
 
 pub take-index-spec : {M : Type 1} → statement M
-take-index-spec = tie.close (tie.spec returns loaded-requires returns-2 loaded-requires-2 sub-t11 cast-t12 past-requires returns-3)
+take-index-spec = tie.close (tie.spec missing-requires returns loaded-requires missing-requires-2 returns-2 loaded-requires-2 sub-t13 cast-t14 past-requires returns-3)

@@ -1,0 +1,396 @@
+-- How much to fetch (E9): the number is the least that could finish what waits; demand 3 with it; and a client that always asks for so many bytes reads every
+-- accepted stream to its end and never asks past it. Rests on Codes, Readings, Sessions and Complete.
+use Prim.Native.Nat.{ℕ, zero, suc, _+_, _*_, _-_, _/_, _≤_, _<_}
+use mathlib.Core.Path.{_≡_, refl, ap, sym, _∙_, subst}
+use mathlib.Core.Logic.{_⊎_, inl, inr}
+use mathlib.Core.Bool.{Bool, true, false, cond, _&&_}
+use mathlib.Core.List.{List, [], _∷_, _++_, append-assoc, append-nil}
+use native.Mathlib.Omega.{arith}
+use native.Mathlib.Decide.{ℕ-discrete, decLt}
+use lib.ListN.{length, take, drop, replicate, length-append, length-drop, length-replicate, take-append-drop}
+use lib.Seq.{length-take-le}
+use lib.Dec.{leb, ltb}
+use borrow.Author.Tests.{ltb-true, ltb-false, lt-ltb, le-ltb, le-leb, lt-leb, leb-true, leb-false}
+use Rattle.rules.specs.declared.Session.{Session}
+use Rattle.rules.specs.declared.ReadAnswer.{ReadAnswer}
+use Rattle.rules.specs.declared.State.{State}
+use Rattle.rules.specs.declared.State.the-variants.{Header, Running, Complete, Closed, Refused}
+use Rattle.rules.specs.Stream.{bitsOf, value, unpack, pack, Taken, takeIndex, takeSymbol}
+use Rattle.rules.specs.Walk.{Walk, enough}
+use Rattle.rules.specs.Reading.{Run, stepTaken, stepWith, stepAt, step, onward, run, runAll, Reading, spoiled, settle, readHeader, readingOf, closing}
+use Rattle.rules.specs.Reading.{plainAnswer, answerOf, tablesOf, readWhole, readAnswer, readTables}
+use Rattle.rules.specs.Session.{idle, held, store, opened, waitingOf, begins, fit, unchanged, leaves, afterEnd, ifFit, page, close, recordFor}
+use Rattle.rules.specs.Session.{tablesFor}
+use Rattle.rules.specs.Fetch.{wholeBytes, moreBits, fetchAs, fetchOf, PageLeft, fetching, pageCall, isWhole, finishesAs, finishes}
+use Rattle.rules.specs.Inner.{Asks}
+use Rattle.rules.proofs.Refusals.{refused-some}
+use Rattle.rules.proofs.Codes.{length-bits, Bytes, length-unpack, length-pack, unpack-pack, bytes-pack}
+use Rattle.rules.proofs.Readings.{begins-13}
+use Rattle.rules.proofs.Fitness.{waiting-held, Fits}
+use Rattle.rules.proofs.Sessions.{feed, reading-more, unpack-append, whole-bytes, two-pages, whole, page-fit, reading-fits, record-fit, page-reads, close-reads}
+use Rattle.rules.proofs.Complete.{complete, Streamed}
+
+-- bits: no fewer than are said finish the symbol, whatever they are, and with so many zeros it is whole
+pub fewer-bits : (bs zs : List Bool) → length zs < moreBits (takeSymbol bs) → isWhole (takeSymbol (bs ++ zs)) ≡ false
+unfolding takeSymbol moreBits isWhole takeIndex
+fewer-bits [] [] h = refl
+fewer-bits [] (z ∷ zs) h = absurd (omega arith)
+fewer-bits (false ∷ bs) zs h = absurd (omega arith)
+fewer-bits (true ∷ []) [] h = refl
+fewer-bits (true ∷ []) (z ∷ zs) h = absurd (omega arith)
+fewer-bits (true ∷ false ∷ bs) zs h = absurd (omega arith)
+fewer-bits (true ∷ true ∷ bs) zs h = go (ltb (length bs) 12) refl h
+  where
+    go : (b : Bool) → ltb (length bs) 12 ≡ b → length zs < moreBits (takeIndex b bs) → isWhole (takeIndex (ltb (length (bs ++ zs)) 12) (bs ++ zs)) ≡ false
+    go true e h = rw (lt-ltb (length (bs ++ zs)) 12 (simp length-append (omega arith)))
+    go false e h = absurd (omega arith)
+
+pub enough-bits : (bs : List Bool) (k : ℕ) → moreBits (takeSymbol bs) ≤ k → isWhole (takeSymbol (bs ++ replicate k false)) ≡ true
+unfolding takeSymbol moreBits isWhole takeIndex
+enough-bits [] zero h = absurd (omega arith)
+enough-bits [] (suc k) h = refl
+enough-bits (false ∷ bs) k h = refl
+enough-bits (true ∷ []) zero h = absurd (omega arith)
+enough-bits (true ∷ []) (suc k) h = refl
+enough-bits (true ∷ false ∷ bs) k h = refl
+enough-bits (true ∷ true ∷ bs) k h = go (ltb (length bs) 12) refl h
+  where
+    zs : List Bool
+    zs = replicate k false
+
+    long : 12 ≤ length (bs ++ zs) → isWhole (takeIndex (ltb (length (bs ++ zs)) 12) (bs ++ zs)) ≡ true
+    long l = rw (le-ltb (length (bs ++ zs)) 12 l)
+
+    go : (b : Bool) → ltb (length bs) 12 ≡ b → moreBits (takeIndex b bs) ≤ k → isWhole (takeIndex (ltb (length (bs ++ zs)) 12) (bs ++ zs)) ≡ true
+    go true e h = long (simp length-append (omega (arith, length-replicate k false)))
+    go false e h = long (simp length-append (omega (arith, ltb-false (length bs) 12 e)))
+
+-- at most twelve are to come
+pub short-few : (bs : List Bool) (k : ℕ) → takeSymbol bs ≡ Taken.short k → k ≤ 12
+unfolding takeSymbol takeIndex
+short-few [] k e = let q : 1 ≡ k = cc in omega arith
+short-few (false ∷ bs) k e = let z : _≡_ {A = ℕ} 0 1 = cc in absurd (omega arith)
+short-few (true ∷ []) k e = let q : 1 ≡ k = cc in omega arith
+short-few (true ∷ false ∷ bs) k e = let z : _≡_ {A = ℕ} 0 1 = cc in absurd (omega arith)
+short-few (true ∷ true ∷ bs) k e = go (ltb (length bs) 12) e
+  where
+    go : (b : Bool) → takeIndex b bs ≡ Taken.short k → k ≤ 12
+    go true e = let q : 12 - length bs ≡ k = cc in omega arith
+    go false e = let z : _≡_ {A = ℕ} 0 1 = cc in absurd (omega arith)
+
+-- some f bytes finish what waits in a session, and no fewer do, whatever they are
+pub record Least (s : Session) (f : ℕ) : Type 0 where
+  pub some : (bytes : List ℕ) × (length bytes ≡ f) × Bytes bytes × (finishes s bytes ≡ true)
+  pub fewer : (bytes : List ℕ) → length bytes < f → finishes s bytes ≡ false
+
+module _ (s : Session) where
+  long : (bytes : List ℕ) → length (waitingOf s ++ unpack bytes) ≡ s .waiting + 8 * length bytes
+  unfolding waitingOf
+  long bytes = simp length-append (omega (arith, length-bits (s .waiting) (s .value), length-unpack bytes))
+
+  -- by so many zeros
+  finished : (st : State) → finishesAs st (waitingOf s ++ replicate (8 * fetchAs st s) false) ≡ true
+  unfolding finishesAs fetchAs wholeBytes waitingOf
+  finished Header =
+      let k = 8 * ((16 - s .waiting + 7) / 8) in
+      le-leb 16 (length (bitsOf (s .waiting) (s .value) ++ replicate k false))
+      (simp length-append (omega (arith, length-bits (s .waiting) (s .value), length-replicate k false)))
+  finished Running =
+      let k = 8 * ((moreBits (takeSymbol (bitsOf (s .waiting) (s .value))) + 7) / 8) in
+      enough-bits (bitsOf (s .waiting) (s .value)) k (omega arith)
+  finished Complete = refl
+  finished Closed = refl
+  finished (Refused nr p) = refl
+
+  unfinished : (st : State) (bytes : List ℕ) → length bytes < fetchAs st s → finishesAs st (waitingOf s ++ unpack bytes) ≡ false
+  unfolding finishesAs fetchAs wholeBytes
+  unfinished Header bytes h = lt-leb 16 (length (waitingOf s ++ unpack bytes)) (omega (arith, long bytes))
+  unfinished Running bytes h = fewer-bits (waitingOf s) (unpack bytes) (omega (arith, length-unpack bytes))
+  unfinished Complete bytes h = absurd (omega arith)
+  unfinished Closed bytes h = absurd (omega arith)
+  unfinished (Refused nr p) bytes h = absurd (omega arith)
+
+  -- the number is right, of every session
+  pub fetch-least : Least s (fetchOf s)
+  unfolding fetchOf finishes
+  fetch-least =
+      let f = fetchAs (s .state) s in
+      let zs = replicate (8 * f) false in
+      let u : unpack (pack f zs) ≡ zs = unpack-pack f zs (length-replicate (8 * f) false) in
+      record { some = (pack f zs, length-pack f zs, bytes-pack f zs, rw u (finished (s .state))); fewer = λ bytes h. unfinished (s .state) bytes h }
+
+-- of a page's answer: with 0 where the session was unfit
+pub page-least : (s : Session) (bytes t : List ℕ) → 1 ≤ pageCall s bytes t .answer .fetch → Least (pageCall s bytes t .session) (pageCall s bytes t .answer .fetch)
+unfolding pageCall fetching
+page-least s bytes t = go (fit s t)
+  where
+    go : (b : Bool) → 1 ≤ cond b (fetchOf (page s bytes t .session)) 0 → Least (page s bytes t .session) (cond b (fetchOf (page s bytes t .session)) 0)
+    go true h = fetch-least (page s bytes t .session)
+    go false h = absurd (omega arith)
+
+-- the numbers that document 02 names: 2 on a new session, 1 after one header byte; in a symbol 2 with 11 and up to three bits after it, else 1; 0 when complete,
+-- closed or refused
+pub fetch-header : (s : Session) → s .state ≡ Header → ((s .waiting ≡ 0 → fetchOf s ≡ 2) × (s .waiting ≡ 8 → fetchOf s ≡ 1))
+unfolding fetchOf fetchAs wholeBytes
+fetch-header s e = (λ w. rw (e, w), λ w. rw (e, w))
+
+-- bits that begin a symbol: how many are to come
+to-come : (bs : List Bool) → begins bs ≡ true → ((length bs ≤ 1 → moreBits (takeSymbol bs) ≡ 1) × (2 ≤ length bs → moreBits (takeSymbol bs) + length bs ≡ 14))
+unfolding begins takeSymbol moreBits takeIndex
+to-come [] g = (λ l. refl, λ l. absurd (omega arith))
+to-come (false ∷ bs) g = let z : _≡_ {A = ℕ} 0 1 = cc in absurd (omega arith)
+to-come (true ∷ []) g = (λ l. refl, λ l. absurd (omega arith))
+to-come (true ∷ false ∷ bs) g = let z : _≡_ {A = ℕ} 0 1 = cc in absurd (omega arith)
+to-come (true ∷ true ∷ bs) g =
+    let l = leb-true (length bs) 11 g in
+    (λ k. absurd (omega arith), λ k. rw (lt-ltb (length bs) 12 (omega arith)) (omega arith))
+
+-- by how many bits wait: none, one, or 11 and those after it
+pub fetch-running : (s : Session) → s .state ≡ Running → begins (waitingOf s) ≡ true → s .waiting ≤ 13
+    → (((s .waiting ≤ 1) ⊎ (6 ≤ s .waiting)) → fetchOf s ≡ 1) × ((2 ≤ s .waiting) × (s .waiting ≤ 5) → fetchOf s ≡ 2)
+unfolding fetchOf fetchAs waitingOf wholeBytes
+fetch-running s e g few = (one, λ (l, k). rw e (omega (arith, to-come bs g .1 (omega (arith, n)), n)))
+  where
+    bs : List Bool
+    bs = bitsOf (s .waiting) (s .value)
+
+    n : length (bitsOf (s .waiting) (s .value)) ≡ s .waiting
+    n = length-bits (s .waiting) (s .value)
+
+    one : (s .waiting ≤ 1) ⊎ (6 ≤ s .waiting) → fetchAs (s .state) s ≡ 1
+    one (inl l) = rw e (omega (arith, to-come (bitsOf (s .waiting) (s .value)) g .0 (omega (arith, n))))
+    one (inr l) = rw e (omega (arith, to-come (bitsOf (s .waiting) (s .value)) g .1 (omega (arith, n)), n))
+
+pub fetch-none : (s : Session) → (s .state ≡ Complete) ⊎ (s .state ≡ Closed) ⊎ ((nr p : ℕ) × (s .state ≡ Refused nr p)) → fetchOf s ≡ 0
+unfolding fetchOf fetchAs
+fetch-none s (inl e) = rw e
+fetch-none s (inr (inl e)) = rw e
+fetch-none s (inr (inr (nr, p, e))) = rw e
+
+-- Demand 3 with the number.
+
+-- an unfit session
+unfit-page : (s : Session) (bytes t : List ℕ) → fit s t ≡ false → page s bytes t ≡ unchanged s t (plainAnswer 19 0)
+unfolding page ifFit
+unfit-page s bytes t e = rw e
+
+-- one page is the same bytes in two
+pub two-calls : (s : Session) (xs ys t : List ℕ) → length (s .positions) ≡ 7
+    → pageCall (pageCall s xs t .session) ys (pageCall s xs t .tables) ≡ pageCall s (xs ++ ys) t
+unfolding pageCall fetching
+two-calls s xs ys t seven = rw (two-pages s xs ys t seven) (go (fit s t) refl)
+  where
+    go : (b : Bool) → fit s t ≡ b
+        → fetching (page s (xs ++ ys) t) (cond (fit (page s xs t .session) (page s xs t .tables)) (fetchOf (page s (xs ++ ys) t .session)) 0)
+        ≡ fetching (page s (xs ++ ys) t) (cond b (fetchOf (page s (xs ++ ys) t .session)) 0)
+    go true e = rw (page-fit s xs t seven e)
+    go false e = rw (unfit-page s xs t e, unfit-page s (xs ++ ys) t e) (unfold unchanged in rw e)
+
+-- pages one after another, from what a page has left: what the last one leaves
+unfoldable pub pages : PageLeft → List (List ℕ) → PageLeft
+pages x [] = x
+pages x (p ∷ ps) = pages (pageCall (x .session) p (x .tables)) ps
+
+-- one page is the same bytes in any number of pages
+pub several-pages : (s : Session) (p : List ℕ) (ps : List (List ℕ)) (t : List ℕ) → length (s .positions) ≡ 7
+    → pages (pageCall s p t) ps ≡ pageCall s (p ++ whole ps) t
+unfolding pages whole
+several-pages s p [] t seven = rw append-nil
+several-pages s p (q ∷ ps) t seven = rw (two-calls s p q t seven, several-pages s (p ++ q) ps t seven, append-assoc)
+
+-- what a page leaves from open, by the bytes so far alone
+abbrev pub sofar : List ℕ → List ℕ → PageLeft
+sofar bytes t = record {
+  session = recordFor bytes t;
+  answer = record { reading = answerOf (readingOf (unpack bytes) t); fetch = fetchOf (recordFor bytes t) };
+  tables = tablesFor bytes t;
+}
+
+-- before any page: a new session, which wants both header bytes
+abbrev pub opening : List ℕ → PageLeft
+opening t = record { session = opened; answer = record { reading = plainAnswer 0 0; fetch = 2 }; tables = t }
+
+opening-sofar : (t : List ℕ) → opening t ≡ sofar [] t
+unfolding recordFor tablesFor readingOf readHeader unpack store idle value answerOf tablesOf fetchOf fetchAs wholeBytes
+opening-sofar t = refl
+
+-- a page on the record and the tables for the bytes so far
+pub call-reads : (xs ys t : List ℕ) → pageCall (recordFor xs t) ys (tablesFor xs t) ≡ sofar (xs ++ ys) t
+unfolding pageCall fetching
+call-reads xs ys t = rw (record-fit xs t, page-reads xs ys t) (unfold leaves recordFor tablesFor in refl)
+
+-- after any pages from open, empty ones too; the pages up to any of them are such pages, so this holds after each
+pub pages-are : (ps : List (List ℕ)) (t : List ℕ) → pages (opening t) ps ≡ sofar (whole ps) t
+unfolding pages whole
+pages-are [] t = opening-sofar t
+pages-are (p ∷ ps) t =
+    several-pages opened p ps t refl
+    ∙ (ap (λ (x : PageLeft). pageCall (x .session) (p ++ whole ps) (x .tables)) (opening-sofar t) ∙ call-reads [] (p ++ whole ps) t)
+
+-- pages from open, then closing: answer and tables of one whole read
+pub pages-read : (ps : List (List ℕ)) (t : List ℕ)
+    → (close (pages (opening t) ps .session) (pages (opening t) ps .tables) .answer ≡ readAnswer (whole ps) t)
+    × (close (pages (opening t) ps .session) (pages (opening t) ps .tables) .tables ≡ readTables (whole ps) t)
+pages-read ps t = rw (pages-are ps t) (close-reads (whole ps) t)
+
+-- A client.
+
+-- what a reading wants
+unfoldable pub wants : Reading → ℕ
+wants (Reading.header bs) = wholeBytes (16 - length bs)
+wants (Reading.running w bs) = wholeBytes (moreBits (takeSymbol bs))
+wants (Reading.complete w) = 0
+wants (Reading.closed w) = 0
+wants (Reading.refused nr p u) = 0
+
+pub fetch-store : (r : Reading) → fetchOf (store r) ≡ wants r
+unfolding fetchOf fetchAs store wants held wholeBytes
+fetch-store (Reading.header bs) = unfold idle in refl
+fetch-store (Reading.running w bs) = rw (waiting-held Running w bs) (unfold held in refl)
+fetch-store (Reading.complete w) = unfold held in refl
+fetch-store (Reading.closed w) = unfold held in refl
+fetch-store (Reading.refused nr p u) = unfold idle in refl
+
+-- a reading that closing accepts is complete
+accepted : {r : Reading} → Fits r → (t : List ℕ) → answerOf (closing r t) .number ≡ 0 → (w : Walk) × (r ≡ Reading.complete w)
+unfolding closing answerOf spoiled plainAnswer
+accepted (Fits.header h) t e = absurd (omega arith)
+accepted (Fits.running v h a) t e = absurd (omega arith)
+accepted (Fits.complete {w} v h o c) t e = (w, refl)
+accepted (Fits.refused {nr} {p} h) t e = absurd (refused-some nr p h e)
+
+not-header : {bs : List Bool} {w : Walk} {A : Type 0} → Reading.header bs ≡ Reading.complete w → A
+not-header e = let z : _≡_ {A = ℕ} 0 1 = cc in absurd (omega arith)
+
+not-running : {w : Walk} {bs : List Bool} {w' : Walk} {A : Type 0} → Reading.running w bs ≡ Reading.complete w' → A
+not-running e = let z : _≡_ {A = ℕ} 0 1 = cc in absurd (omega arith)
+
+not-refused : {nr p : ℕ} {u : List ℕ} {w : Walk} {A : Type 0} → Reading.refused nr p u ≡ Reading.complete w → A
+not-refused e = let z : _≡_ {A = ℕ} 0 1 = cc in absurd (omega arith)
+
+-- bits that do not finish the symbol leave a walk that asks for it where it is
+stays-running : (w : Walk) (bs ys : List Bool) → Asks w bs → isWhole (takeSymbol (bs ++ ys)) ≡ false → settle (runAll w (bs ++ ys)) ≡ Reading.running w (bs ++ ys)
+stays-running w bs ys a = go (takeSymbol (bs ++ ys)) refl
+  where
+    go : (t : Taken) → takeSymbol (bs ++ ys) ≡ t → isWhole t ≡ false → settle (runAll w (bs ++ ys)) ≡ Reading.running w (bs ++ ys)
+    go (Taken.short k) q e = unfold runAll run onward enough step stepAt stepWith stepTaken settle in rw (a .next, a .needs, q)
+    go (Taken.symbol s rest) q e = unfold isWhole in let z : _≡_ {A = ℕ} 0 1 = cc in absurd (omega arith)
+
+-- enough bytes are left where reading them as well comes to complete, and none where nothing waits
+enough-left : {r : Reading} → Fits r → (ys t : List ℕ) (w : Walk) → feed r (unpack ys) t ≡ Reading.complete w
+    → (wants r ≤ length ys) × (wants r ≡ 0 → ys ≡ [])
+unfolding feed wants wholeBytes afterEnd spoiled
+enough-left (Fits.header {bs} h) ys t w e = (bound, λ z. absurd (small h z))
+  where
+    bound : wholeBytes (16 - length bs) ≤ length ys
+    bound = go (leb 16 (length (bs ++ unpack ys))) refl
+      where
+        go : (b : Bool) → leb 16 (length (bs ++ unpack ys)) ≡ b → wholeBytes (16 - length bs) ≤ length ys
+        go true q = unfold wholeBytes in omega (arith, leb-true 16 (length (bs ++ unpack ys)) q, length-append bs (unpack ys), length-unpack ys)
+        go false q = not-header {bs = bs ++ unpack ys} {w = w} (unfold readingOf readHeader in rw q at e)
+
+    small : (length bs ≡ 0) ⊎ (length bs ≡ 8) → wholeBytes (16 - length bs) ≡ 0 → ⊥
+    small (inl h) z = omega arith
+    small (inr h) z = omega arith
+enough-left (Fits.running {w = w1} {bs} v h a) ys t w e = (bound (decLt (length ys) (wholeBytes (moreBits (takeSymbol bs)))), λ z. absurd (some z))
+  where
+    bound : Dec (length ys < wholeBytes (moreBits (takeSymbol bs))) → wholeBytes (moreBits (takeSymbol bs)) ≤ length ys
+    bound (no n) = omega arith
+    bound (yes l) =
+        let f = fewer-bits bs (unpack ys) (unfold wholeBytes in omega (arith, length-unpack ys)) in
+        not-running (sym (stays-running w1 bs (unpack ys) a f) ∙ e)
+
+    some : wholeBytes (moreBits (takeSymbol bs)) ≡ 0 → ⊥
+    some z = go (decLt (length bs) 2)
+      where
+        go : Dec (length bs < 2) → ⊥
+        go (yes l) = omega (arith, to-come bs (a .begun) .0 (omega arith))
+        go (no l) = omega (arith, to-come bs (a .begun) .1 (omega arith), begins-13 bs (a .begun))
+enough-left (Fits.complete v h o c) [] t w e = (omega arith, λ z. refl)
+enough-left (Fits.complete {w = w1} v h o c) (y ∷ ys) t w e = unfold unpack bitsOf in after (bitsOf 8 y ++ unpack ys) (simp length-append (omega (arith, length-bits 8 y))) e
+  where
+    after : (bits : List Bool) → 1 ≤ length bits → afterEnd w1 bits ≡ Reading.complete w → (0 ≤ length (y ∷ ys)) × (_≡_ {A = ℕ} 0 0 → y ∷ ys ≡ [])
+    after [] l e = absurd (omega arith)
+    after (b ∷ bits) l e = not-refused e
+enough-left (Fits.refused h) ys t w e = not-refused e
+
+-- of an accepted stream at least as many bytes are left as are to be fetched, wherever it is cut; and where there are none to fetch, none is left
+pub never-past : (xs ys t : List ℕ) → readAnswer (xs ++ ys) t .number ≡ 0 → (fetchOf (recordFor xs t) ≤ length ys) × (fetchOf (recordFor xs t) ≡ 0 → ys ≡ [])
+unfolding readAnswer readWhole recordFor
+never-past xs ys t e =
+    let r = readingOf (unpack xs) t in
+    let (w, q) = accepted (reading-fits (xs ++ ys) t) t e in
+    let m : feed r (unpack ys) (tablesOf r t) ≡ Reading.complete w =
+    reading-more (unpack xs) (unpack ys) t (whole-bytes ys) ∙ (ap (λ (bits : List Bool). readingOf bits t) (sym (unpack-append xs ys)) ∙ q) in
+    rw (fetch-store r) (enough-left (reading-fits xs t) ys (tablesOf r t) w m)
+
+-- a client that asks each time for as many bytes as the answer before said, from what a page has left and the bytes that are left, up to what its last page
+-- leaves: every page has as many bytes as it asked for, and it stops at 0 to fetch, when no byte is left
+pub data Client : PageLeft → List ℕ → PageLeft → Type 0 where
+  stops : {x : PageLeft} → x .answer .fetch ≡ 0 → Client x [] x
+  asks : {x z : PageLeft} (p rest : List ℕ) → 1 ≤ x .answer .fetch → length p ≡ x .answer .fetch → Client (pageCall (x .session) p (x .tables)) rest z
+      → Client x (p ++ rest) z
+
+-- one page of it, where some bytes are to be fetched
+client-asks : (xs ys t : List ℕ) → 1 ≤ fetchOf (recordFor xs t) → fetchOf (recordFor xs t) ≤ length ys
+    → (let f = fetchOf (recordFor xs t) in Client (sofar (xs ++ take f ys) t) (drop f ys) (sofar ((xs ++ take f ys) ++ drop f ys) t))
+    → Client (sofar xs t) ys (sofar (xs ++ ys) t)
+client-asks xs ys t some l c =
+    let f = fetchOf (recordFor xs t) in
+    let j : take f ys ++ drop f ys ≡ ys = take-append-drop f ys in
+    let a : (xs ++ take f ys) ++ drop f ys ≡ xs ++ ys = append-assoc xs (take f ys) (drop f ys) ∙ ap (λ (u : List ℕ). xs ++ u) j in
+    let d : Client (sofar (xs ++ take f ys) t) (drop f ys) (sofar (xs ++ ys) t) =
+    subst (λ (u : List ℕ). Client (sofar (xs ++ take f ys) t) (drop f ys) (sofar u t)) a c in
+    let e : Client (pageCall (recordFor xs t) (take f ys) (tablesFor xs t)) (drop f ys) (sofar (xs ++ ys) t) =
+    subst (λ (x : PageLeft). Client x (drop f ys) (sofar (xs ++ ys) t)) (sym (call-reads xs (take f ys) t)) d in
+    subst (λ (u : List ℕ). Client (sofar xs t) u (sofar (xs ++ ys) t)) j (Client.asks (take f ys) (drop f ys) some (length-take-le f ys l) e)
+
+-- its end
+client-stops : (xs ys t : List ℕ) → fetchOf (recordFor xs t) ≡ 0 → ys ≡ [] → Client (sofar xs t) ys (sofar (xs ++ ys) t)
+client-stops xs ys t z n = rw (n, append-nil) (Client.stops z)
+
+-- with at most as many pages to come as bytes
+client-from : (k : ℕ) (xs ys t : List ℕ) → length ys ≤ k → readAnswer (xs ++ ys) t .number ≡ 0 → Client (sofar xs t) ys (sofar (xs ++ ys) t)
+client-from zero xs ys t h e =
+    let (l, n) = never-past xs ys t e in
+    let z : fetchOf (recordFor xs t) ≡ 0 = omega arith in
+    client-stops xs ys t z (n z)
+client-from (suc k) xs ys t h e =
+    go (ℕ-discrete (fetchOf (recordFor xs t)) 0) (λ l q. client-from k (xs ++ take (fetchOf (recordFor xs t)) ys) (drop (fetchOf (recordFor xs t)) ys) t l q)
+  where
+    f : ℕ
+    f = fetchOf (recordFor xs t)
+
+    all : (xs ++ take f ys) ++ drop f ys ≡ xs ++ ys
+    all = append-assoc xs (take f ys) (drop f ys) ∙ ap (λ (u : List ℕ). xs ++ u) (take-append-drop f ys)
+
+    go : Dec (fetchOf (recordFor xs t) ≡ 0)
+        → (length (drop (fetchOf (recordFor xs t)) ys) ≤ k
+        → readAnswer ((xs ++ take (fetchOf (recordFor xs t)) ys) ++ drop (fetchOf (recordFor xs t)) ys) t .number ≡ 0
+        → Client (sofar (xs ++ take (fetchOf (recordFor xs t)) ys) t) (drop (fetchOf (recordFor xs t)) ys)
+        (sofar ((xs ++ take (fetchOf (recordFor xs t)) ys) ++ drop (fetchOf (recordFor xs t)) ys) t))
+        → Client (sofar xs t) ys (sofar (xs ++ ys) t)
+    go (yes z) rec = client-stops xs ys t z (never-past xs ys t e .1 z)
+    go (no z) rec =
+        let n = length-drop (fetchOf (recordFor xs t)) ys in
+        client-asks xs ys t (omega arith) (never-past xs ys t e .0) (rec (omega arith) (ap (λ (u : List ℕ). readAnswer u t .number) all ∙ e))
+
+-- from open it reads every accepted stream to its end and never asks past it
+pub client-reads : (bytes t : List ℕ) → readAnswer bytes t .number ≡ 0 → Client (opening t) bytes (sofar bytes t)
+client-reads bytes t e = rw (opening-sofar t) (client-from (length bytes) [] bytes t (omega arith) e)
+
+-- a page of no bytes tells the number of a new session
+pub opening-page : (t : List ℕ) → pageCall opened [] t ≡ opening t
+opening-page t = ap (λ (x : PageLeft). pageCall (x .session) [] (x .tables)) (opening-sofar t) ∙ (call-reads [] [] t ∙ sym (opening-sofar t))
+
+-- of the stream of a valid connected map within the limits, with room for its tables
+module _ {bytes t : List ℕ} (S : Streamed bytes t) where
+  streamed-accepted : readAnswer bytes t .number ≡ 0
+  streamed-accepted =
+      rw (← S .has) (ap (λ (a : ReadAnswer). a .number) (complete (S .dim) (S .darts) (S .map) (S .root) t (S .limits) (S .valid) (S .connected) .answer))
+
+  pub map-left : (xs ys : List ℕ) → xs ++ ys ≡ bytes → fetchOf (recordFor xs t) ≤ length ys
+  map-left xs ys e = never-past xs ys t (rw e streamed-accepted) .0
+
+  pub map-client : Client (opening t) bytes (sofar bytes t)
+  map-client = client-reads bytes t streamed-accepted

@@ -1,0 +1,17 @@
+-- `symbols::Hand::missing` meets its contract: the size less the bits at hand. Assumes nothing.
+use native.Mathlib.Omega.{arith}
+use borrow.Author.Needs.{needs}
+use Rattle.symbols.proofs.Hand.missing.Statement.{statement}
+use Rattle.symbols.proofs.Hand.missing.Tie as tie
+
+size-requires : tie.Need-size-requires
+size-requires c κs = search needs
+
+sub-result : tie.Need-sub-result
+sub-result c = omega (arith, c .before .before .pre .1, c .before .size .ensures)
+
+returns : tie.Need-returns
+returns c = omega (arith, c .before .before .pre .1, c .before .size .ensures)
+
+pub missing-spec : {M : Type 1} → statement M
+missing-spec = tie.close (tie.spec size-requires sub-result returns)
