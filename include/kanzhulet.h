@@ -37,7 +37,7 @@ extern "C" {
 #endif
 
 /* The library's version, as pkg-config and the Rust wrapper give it too. */
-#define KZ_VERSION "0.5.0"
+#define KZ_VERSION "0.6.0"
 
 /* The limits, and the rooms that are long enough for every map. */
 enum {
@@ -54,6 +54,7 @@ enum {
     KZ_CHECK_ANSWER = 2,
     KZ_WRITE_ANSWER = 4,
     KZ_READ_ANSWER = 5,
+    KZ_PAGE_ANSWER = 6,
     KZ_REPORT_ANSWER = 11,
     KZ_RECORD = 15
 };
@@ -155,8 +156,12 @@ void kz_open(uint32_t record[KZ_RECORD]);
 /*
  * A page of a stream. Every step is done that needs no bit beyond those seen.
  *
- * answer: number, place, steps done so far, N, n; 0 also where the session waits for more. N and n are 0 until a header
- *         is accepted, and on a refusal, where steps is the place.
+ * answer: number, place, steps done so far, N, n, bytes to fetch. The number is 0 also where the session waits for
+ *         more. N and n are 0 until a header is accepted, and on a refusal, where steps is the place.
+ *         Bytes to fetch is the least number of bytes that could finish the header or the symbol that waits: 2 on a new
+ *         session, 1 after one header byte, 1 or 2 while the walk runs; fewer never finish it, whatever they are. It is
+ *         0 where nothing waits: the stream is complete, or the answer is a refusal. Of an accepted stream at
+ *         least so many bytes are left: who always asks for just these reads it to its end and never asks past it.
  * Order of tests: 19, 20, then as kz_read but for 11. A refused session repeats its refusal; 12 is answered only so, to
  *         a record that was lent as refused with it.
  * tables: as for kz_read; unchanged by 19, 20 and a repeated refusal. A header that is accepted fills the first (N+1)*n
@@ -170,14 +175,14 @@ void kz_open(uint32_t record[KZ_RECORD]);
 uint32_t kz_page(uint32_t record[KZ_RECORD],
                  const uint8_t *bytes, size_t bytes_length,
                  uint16_t *tables, size_t tables_length,
-                 uint32_t answer[KZ_READ_ANSWER]);
+                 uint32_t answer[KZ_PAGE_ANSWER]);
 
 /*
  * The end of a session's stream.
  *
- * answer: as for kz_page. Order of tests: 19, 20; a refused session repeats its refusal; 11 if the stream is cut; else
- *         0, and the state becomes closed. For a session that began with kz_open, answer and tables are those of one
- *         kz_read of all the bytes given.
+ * answer: as the first five numbers of kz_page. Order of tests: 19, 20; a refused session repeats its refusal; 11 if
+ *         the stream is cut; else 0, and the state becomes closed. For a session that began with kz_open, answer and
+ *         tables are those of one kz_read of all the bytes given.
  * tables: a first 11 with a header accepted puts KZ_NO_LINK in the first (N+1)*n; else unchanged.
  * record: after 0 state 3, all else as it was; after a first 11 state 4 with number and place, all else 0; else as
  *         given.

@@ -462,6 +462,116 @@ static void lent_session_goes_on(void)
     expect_reading(4, 1, 2);
 }
 
+/* How much to fetch. */
+
+/* A symbol that waits, with the first `bits` of the fourteen bits 11 and twelve zeros, at the first step of a map of
+   two darts. */
+static void lend_waiting(uint32_t bits)
+{
+    static const uint16_t tables[4] = { NO, NO, NO, NO };
+    uint32_t numbers[KZ_RECORD] = { 1, 0, 0, 1, 2, 1 };
+    numbers[13] = bits;
+    numbers[14] = 0x3000u >> (14 - bits);
+    lend_record(numbers, 4, tables);
+}
+
+/* A page of fewer bytes than are to be fetched leaves the symbol waiting, with more bits and no step done. */
+static void expect_waiting(uint32_t bits, const uint8_t *bytes, size_t length)
+{
+    lend_waiting(bits);
+    lend_page(bytes, length);
+    call_page();
+    expect_reading(0, 1, 2);
+    CHECK(record[0] == 1 && record[13] == bits + 8 * length);
+}
+
+/* So many bytes of zeros finish the symbol: steps are done, or a symbol is refused. */
+static void expect_finished(uint32_t bits, size_t length)
+{
+    static const uint8_t zeros[2] = { 0, 0 };
+    lend_waiting(bits);
+    lend_page(zeros, length);
+    call_page();
+    CHECK(answer[2] > 0 || answer[0] == KZ_ITSELF);
+}
+
+/* For each number of bits that wait: no fewer bytes than are said finish the symbol, whatever they are; so many do. */
+static void fetch_is_least(void)
+{
+    uint32_t bits, fetch, byte;
+    uint8_t page_byte;
+    begin("bytes to fetch");
+    for (bits = 0; bits <= 13; bits++) {
+        expect_waiting(bits, NULL, 0);
+        fetch = answer[5];
+        CHECK(fetch == (bits >= 2 && bits <= 5 ? 2 : 1));
+        for (byte = 0; fetch == 2 && byte < 256; byte++) {
+            page_byte = (uint8_t)byte;
+            expect_waiting(bits, &page_byte, 1);
+        }
+        expect_finished(bits, fetch);
+    }
+}
+
+/* A client that always asks for as many bytes as the last answer said; it begins with a page of none. An accepted
+   stream it reads to its end, and never asks past it. */
+static void fetch_as_told(const uint8_t *bytes, size_t length, size_t room)
+{
+    size_t at = 0;
+    open_in(room);
+    feed_page(bytes, 0);
+    while (answer[5] > 0 && at + answer[5] <= length) {
+        size_t fetch = answer[5];
+        feed_page(bytes + at, fetch);
+        at += fetch;
+    }
+    if (whole_answer[0] == 0)
+        CHECK(at == length && answer[5] == 0);
+    feed_page(bytes + at, length - at);
+    expect_close_as_whole();
+}
+
+static void fetch_each_stream(void)
+{
+    uint8_t bytes[16];
+    size_t k, length;
+    for (k = 0; k < READINGS; k++) {
+        begin(readings[k].name);
+        length = spell(readings[k].hex, bytes);
+        read_whole(bytes, length, readings[k].room);
+        fetch_as_told(bytes, length, readings[k].room);
+    }
+}
+
+/* The numbers that the requirements name, byte by byte; and 0 when complete, closed, refused or unfit. */
+static void fetch_after_each_byte(void)
+{
+    static const struct step {
+        const char *hex;
+        uint32_t number, fetch;
+    } steps[] = {
+        { "", 0, 2 }, { "10", 0, 1 }, { "", 0, 1 }, { "03", 0, 1 }, { "18", 0, 2 }, { "00", 0, 1 },
+        { "00", KZ_LINKED, 0 }, { "", KZ_LINKED, 0 },
+    };
+    size_t k;
+    begin("bytes to fetch after each byte");
+    open_in(8);
+    for (k = 0; k < sizeof steps / sizeof steps[0]; k++) {
+        give(steps[k].hex);
+        CHECK(answer[0] == steps[k].number && answer[5] == steps[k].fetch);
+    }
+    open_in(4);
+    give("10 01 50");
+    CHECK(answer[0] == 0 && answer[5] == 0);
+    call_close();
+    give("");
+    CHECK(answer[0] == KZ_CLOSED && answer[5] == 0);
+    lend_waiting(1);
+    record[13] = 14;
+    give("");
+    CHECK(answer[0] == KZ_UNFIT && answer[5] == 0);
+}
+
 /* Posted maps: refusals. */
 
 enum { BAD = 6 };
@@ -867,6 +977,9 @@ int main(void)
     unfit_records_are_left();
     lent_refusals_and_closed_records();
     lent_session_goes_on();
+    fetch_is_least();
+    fetch_each_stream();
+    fetch_after_each_byte();
     numbers_out_of_range();
     rooms_one_entry_short();
     entries_not_below_n();

@@ -3,7 +3,7 @@
 
 enum { NO_LINK = 65535, MAX_STREAM = 50178 };
 
-enum { CHECK_ANSWER = 2, WRITE_ANSWER = 4, READ_ANSWER = 5, REPORT_ANSWER = 11 };
+enum { CHECK_ANSWER = 2, WRITE_ANSWER = 4, READ_ANSWER = 5, PAGE_ANSWER = 6, REPORT_ANSWER = 11 };
 
 /* A map, posted or built. ai(d) stands at links[i * darts + d]. */
 struct map {
@@ -504,8 +504,27 @@ void ref_open(struct ref_session *session)
     empty_queues(session->queues);
 }
 
-uint32_t ref_page(struct ref_session *session, const uint8_t *bytes, size_t bytes_length, uint16_t *tables,
-                  size_t tables_length, uint32_t *answer)
+/* How many bits the waiting header or symbol could at least have: a w if it has begun with 11, and else one bit more
+   than wait, which makes N of none and B of a single 1. */
+static uint32_t least_bits(const struct ref_session *session)
+{
+    if (session->state == REF_HEADER)
+        return 16;
+    return session->bit_count < 2 ? session->bit_count + 1 : 14;
+}
+
+/* The least number of whole bytes that could finish what waits; nothing waits unless a header or a symbol does. */
+static uint32_t bytes_to_fetch(const struct ref_session *session)
+{
+    uint32_t bytes = 0;
+    if (session->state == REF_HEADER || session->state == REF_RUNNING)
+        while (session->bit_count + 8 * bytes < least_bits(session))
+            bytes++;
+    return bytes;
+}
+
+static uint32_t read_page(struct ref_session *session, const uint8_t *bytes, size_t bytes_length, uint16_t *tables,
+                          size_t tables_length, uint32_t *answer)
 {
     struct page page = { bytes, bytes_length, 0 };
     uint32_t outcome = DONE;
@@ -522,6 +541,14 @@ uint32_t ref_page(struct ref_session *session, const uint8_t *bytes, size_t byte
     if (outcome != DONE && outcome != WAITS)
         return refuse(session, outcome, tables, answer);
     return answer_reading(session, answer);
+}
+
+uint32_t ref_page(struct ref_session *session, const uint8_t *bytes, size_t bytes_length, uint16_t *tables,
+                  size_t tables_length, uint32_t *answer)
+{
+    uint32_t number = read_page(session, bytes, bytes_length, tables, tables_length, answer);
+    answer[PAGE_ANSWER - 1] = bytes_to_fetch(session);
+    return number;
 }
 
 uint32_t ref_close(struct ref_session *session, uint16_t *tables, size_t tables_length, uint32_t *answer)
@@ -544,7 +571,7 @@ uint32_t ref_read(const uint8_t *bytes, size_t bytes_length, uint16_t *tables, s
 {
     static struct ref_session session;
     ref_open(&session);
-    if (ref_page(&session, bytes, bytes_length, tables, tables_length, answer) != 0)
+    if (read_page(&session, bytes, bytes_length, tables, tables_length, answer) != 0)
         return answer[0];
     return ref_close(&session, tables, tables_length, answer);
 }

@@ -359,16 +359,27 @@ static void after_session(uint32_t number, size_t entries)
     CHECK(record[13] <= 13 && record[14] < 1u << record[13]);
 }
 
+/* The bytes to fetch, by the record that a page leaves and its number: of a header those that are not there, of a
+   symbol by how many of its bits wait. */
+static uint32_t bytes_to_fetch(uint32_t number)
+{
+    static const uint32_t of_symbol[14] = { 1, 1, 2, 2, 2, 2, 1, 1, 1, 1, 1, 1, 1, 1 };
+    if (number != 0 || record[0] > 1)
+        return 0;
+    return record[0] == 0 ? 2 - record[13] / 8 : of_symbol[record[13]];
+}
+
 static uint32_t call_page(void)
 {
     uint32_t number;
-    LEND(answer, KZ_READ_ANSWER);
+    LEND(answer, KZ_PAGE_ANSWER);
     before_call();
     number = kz_page(record, page, LENGTH(page), built, LENGTH(built), answer);
     after_answer(number, 1u << RECORD | 1u << BUILT, KZ_DIMENSION, KZ_LINKED);
     after_session(number, header_entries(record_was, page, LENGTH(page)));
     CHECK(number != KZ_CUT || record_was[0] == 4);
     CHECK(number != 0 || record[0] <= 2);
+    CHECK(answer[5] == bytes_to_fetch(number));
     return number;
 }
 

@@ -4,7 +4,7 @@
 int main(void)
 {
     uint16_t posted[] = { 1, 0, 0, 1 }, work[4], tables[4]; /* one edge, N = 1, n = 2: a0 of both ends, then a1 */
-    uint32_t record[KZ_RECORD], sent[KZ_WRITE_ANSWER], got[KZ_READ_ANSWER];
+    uint32_t record[KZ_RECORD], sent[KZ_WRITE_ANSWER], got[KZ_PAGE_ANSWER];
     uint8_t page[64];
     kz_write(1, 2, 0, 0, posted, 4, work, 4, page, sizeof page, sent); /* the server: from root 0, from byte 0 on */
     kz_open(record);

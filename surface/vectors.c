@@ -229,7 +229,7 @@ static void read_pages(struct tally *t, size_t size)
     lend(&record, KZ_RECORD);
     kz_open(numbers_of(&record));
     for (from = 0; from < stream.length; from += size) {
-        lend(&answer, KZ_READ_ANSWER);
+        lend(&answer, KZ_PAGE_ANSWER);
         read_page(t, from, size);
     }
     lend(&answer, KZ_READ_ANSWER);
@@ -311,10 +311,10 @@ static void lend_line(struct line *l)
 }
 
 /* = ANSWER / RECORD / TABLES */
-static void take_outcome(struct line *l)
+static void take_outcome(struct line *l, size_t numbers)
 {
     take_word(l, "=");
-    take_answer(l, KZ_READ_ANSWER);
+    take_answer(l, numbers);
     take_word(l, "/");
     take_numbers(l, &record, KZ_RECORD);
     take_word(l, "/");
@@ -325,7 +325,7 @@ static void take_outcome(struct line *l)
 static void page_line(struct tally *t, struct line *l)
 {
     take_lent(l, &page);
-    take_outcome(l);
+    take_outcome(l, KZ_PAGE_ANSWER);
     if (is_case(t, l))
         judge(t, call_page());
 }
@@ -333,7 +333,7 @@ static void page_line(struct tally *t, struct line *l)
 /* close = ANSWER / RECORD / TABLES */
 static void close_line(struct tally *t, struct line *l)
 {
-    take_outcome(l);
+    take_outcome(l, KZ_READ_ANSWER);
     if (is_case(t, l))
         judge(t, call_close());
 }

@@ -377,7 +377,8 @@ after-wants w (b ∷ bits) = refl
 pub complete-wants : (p : Paged) (u : List ℕ) (w : Walk) (bits : List Bool) (t : List ℕ) → leftBy p u ≡ leaves (afterEnd w bits) t → 0 ≡ fetchOf (p .session)
 complete-wants p u w bits t e = sym (after-wants w bits) ∙ left-wants p u (afterEnd w bits) t e
 
-pub header-fetches : (r : Fetching) (k v : ℕ) → (readBy r ≡ record { session = idleBy Header k v; answer = plainAnswer 0 0 }) × (r .answer .fetch ≡ wholeBytes (16 - k))
+pub header-fetches : (r : Fetching) (k v : ℕ)
+    → (readBy r ≡ record { session = idleBy Header k v; answer = plainAnswer 0 0 }) × (r .answer .fetch ≡ wholeBytes (16 - k))
     → (t : List ℕ) {l : Left} → (r .session ≡ idleBy Header k v → r .answer .reading ≡ plainAnswer 0 0 → leftBy (readBy r) t ≡ l) → Fetches r t l
 unfolding fetchOf fetchAs
 header-fetches r k v (e, f) t h =
@@ -406,7 +407,9 @@ module _ (s : Session) (t : List ℕ) (x : Left) where
 module _ (s : Session) (t : List ℕ) (r : Fetching) (u bytes : List ℕ) where
   called : {l : Left} → leftBy (readBy r) u ≡ l → (f : ℕ) → r .answer .fetch ≡ f → fetchedBy r u ≡ fetching l f
   unfolding fetching leftBy
-  called e f q = (λ i. record { session = r .session; answer = record { reading = r .answer .reading; fetch = q i }; tables = u }) ∙ ap (λ (y : Left). fetching y f) e
+  called e f q =
+      (λ i. record { session = r .session; answer = record { reading = r .answer .reading; fetch = q i }; tables = u })
+      ∙ ap (λ (y : Left). fetching y f) e
 
   pub page-called : fit s t ≡ true → Fetches r u (pageAs (s .state) s (unpack bytes) t) → fetchedBy r u ≡ pageCall s bytes t
   unfolding pageCall leftBy

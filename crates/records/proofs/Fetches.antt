@@ -1,15 +1,13 @@
 -- How many bytes to fetch after a run, and what a page answers with it. Rests on Lefts and on the rules' Fetch.
-use Prim.Native.Nat.{ℕ, _≤_}
+use Prim.Native.Nat.{ℕ}
 use mathlib.Core.Path.{_≡_, refl, ap, sym, _∙_}
 use mathlib.Core.Bool.{Bool, true, false}
 use mathlib.Core.List.{List}
-use native.Mathlib.Omega.{arith}
-use lib.ListN.{length, take}
 use Rattle.rules.specs.Walk.{Walk}
 use Rattle.rules.specs.Stream.{Taken, takeSymbol}
 use Rattle.rules.specs.Reading.{Reading, spoiled, test, finish, settle}
-use Rattle.rules.specs.Session.{Left, store, leaves}
-use Rattle.rules.specs.Fetch.{wholeBytes, moreBits, fetchOf}
+use Rattle.rules.specs.Session.{Left, leaves}
+use Rattle.rules.specs.Fetch.{moreBits, fetchOf}
 use Rattle.rules.proofs.Fetch.{wants, fetch-store}
 use Rattle.runs.specs.declared.Signal.{Signal}
 use Rattle.runs.specs.declared.Signal.the-variants.{Ended, Waits, Refused}
@@ -30,15 +28,16 @@ unfolding finish wants
 finish-wants w bs = test-wants _ 15 w _ (test-wants _ 16 w _ (test-wants _ 17 w _ (test-wants _ 18 w _ refl)))
 
 -- a run that waits wants the bytes of the bits that its symbol has to come
-pub signal-wants : (x : Signal) (w : Walk) (bs : List Bool) → ((k : ℕ) → x ≡ Waits k → takeSymbol bs ≡ Taken.short k) → signalFetch x ≡ wants (settle (signalRun x w bs))
+pub signal-wants : (x : Signal) (w : Walk) (bs : List Bool) → ((k : ℕ) → x ≡ Waits k → takeSymbol bs ≡ Taken.short k)
+    → signalFetch x ≡ wants (settle (signalRun x w bs))
 unfolding settle signalRun wants spoiled
 signal-wants Ended w bs h = sym (finish-wants w bs)
 signal-wants (Waits k) w bs h = unfold moreBits in rw (h k refl)
 signal-wants (Refused nr) w bs h = refl
 
 -- a page leaves what a call leaves, and answers what the session wants that it leaves
-pub fetches-at : (r : Fetching) (p : Paged) (t : List ℕ) (f : ℕ) → (readBy r ≡ p) × (r .answer .fetch ≡ f) → {l : Left} → leftBy p t ≡ l → f ≡ fetchOf (p .session)
-    → Fetches r t l
+pub fetches-at : (r : Fetching) (p : Paged) (t : List ℕ) (f : ℕ) → (readBy r ≡ p) × (r .answer .fetch ≡ f) → {l : Left} → leftBy p t ≡ l
+    → f ≡ fetchOf (p .session) → Fetches r t l
 fetches-at r p t f (e, q) h w =
     record { left = ap (λ (y : Paged). leftBy y t) e ∙ h; fetch = q ∙ (w ∙ ap (λ (y : Paged). fetchOf (y .session)) (sym e)) }
 

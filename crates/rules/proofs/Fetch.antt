@@ -2,32 +2,33 @@
 -- accepted stream to its end and never asks past it. Rests on Codes, Readings, Sessions and Complete.
 use Prim.Native.Nat.{ℕ, zero, suc, _+_, _*_, _-_, _/_, _≤_, _<_}
 use mathlib.Core.Path.{_≡_, refl, ap, sym, _∙_, subst}
-use mathlib.Core.Logic.{_⊎_, inl, inr}
-use mathlib.Core.Bool.{Bool, true, false, cond, _&&_}
+use mathlib.Core.Logic.{_≢_, _⊎_, inl, inr}
+use mathlib.Core.Bool.{Bool, true, false, cond}
 use mathlib.Core.List.{List, [], _∷_, _++_, append-assoc, append-nil}
 use native.Mathlib.Omega.{arith}
 use native.Mathlib.Decide.{ℕ-discrete, decLt}
 use lib.ListN.{length, take, drop, replicate, length-append, length-drop, length-replicate, take-append-drop}
 use lib.Seq.{length-take-le}
 use lib.Dec.{leb, ltb}
-use borrow.Author.Tests.{ltb-true, ltb-false, lt-ltb, le-ltb, le-leb, lt-leb, leb-true, leb-false}
+use borrow.Author.Tests.{ltb-false, lt-ltb, le-ltb, le-leb, lt-leb, leb-true}
 use Rattle.rules.specs.declared.Session.{Session}
 use Rattle.rules.specs.declared.ReadAnswer.{ReadAnswer}
 use Rattle.rules.specs.declared.State.{State}
 use Rattle.rules.specs.declared.State.the-variants.{Header, Running, Complete, Closed, Refused}
 use Rattle.rules.specs.Stream.{bitsOf, value, unpack, pack, Taken, takeIndex, takeSymbol}
 use Rattle.rules.specs.Walk.{Walk, enough}
-use Rattle.rules.specs.Reading.{Run, stepTaken, stepWith, stepAt, step, onward, run, runAll, Reading, spoiled, settle, readHeader, readingOf, closing}
-use Rattle.rules.specs.Reading.{plainAnswer, answerOf, tablesOf, readWhole, readAnswer, readTables}
-use Rattle.rules.specs.Session.{idle, held, store, opened, waitingOf, begins, fit, unchanged, leaves, afterEnd, ifFit, page, close, recordFor}
+use Rattle.rules.specs.Reading.{stepTaken, stepWith, stepAt, step, onward, run, runAll, Reading, spoiled, settle, readHeader, readingOf, closing}
+use Rattle.rules.specs.Reading.{goodAnswer, plainAnswer, answerOf, tablesOf, readWhole, readAnswer, readTables}
+use Rattle.rules.specs.Session.{idle, held, store, opened, waitingOf, begins, fit, unchanged, leaves, afterEnd, pageAs, ifFit, page, close, recordFor}
 use Rattle.rules.specs.Session.{tablesFor}
 use Rattle.rules.specs.Fetch.{wholeBytes, moreBits, fetchAs, fetchOf, PageLeft, fetching, pageCall, isWhole, finishesAs, finishes}
 use Rattle.rules.specs.Inner.{Asks}
 use Rattle.rules.proofs.Refusals.{refused-some}
 use Rattle.rules.proofs.Codes.{length-bits, Bytes, length-unpack, length-pack, unpack-pack, bytes-pack}
-use Rattle.rules.proofs.Readings.{begins-13}
-use Rattle.rules.proofs.Fitness.{waiting-held, Fits}
-use Rattle.rules.proofs.Sessions.{feed, reading-more, unpack-append, whole-bytes, two-pages, whole, page-fit, reading-fits, record-fit, page-reads, close-reads}
+use Rattle.rules.proofs.Readings.{begins-short, begins-13}
+use Rattle.rules.proofs.Fitness.{waiting-held, waiting-idle, Fits, FitSession, fit-session}
+use Rattle.rules.proofs.Sessions.{feed, feed-fits, page-as, page-store, reading-more, unpack-append, whole-bytes, two-pages, whole, page-fit}
+use Rattle.rules.proofs.Sessions.{reading-fits, record-fit, page-reads, close-reads}
 use Rattle.rules.proofs.Complete.{complete, Streamed}
 
 -- bits: no fewer than are said finish the symbol, whatever they are, and with so many zeros it is whole
@@ -92,12 +93,9 @@ module _ (s : Session) where
   finished : (st : State) → finishesAs st (waitingOf s ++ replicate (8 * fetchAs st s) false) ≡ true
   unfolding finishesAs fetchAs wholeBytes waitingOf
   finished Header =
-      let k = 8 * ((16 - s .waiting + 7) / 8) in
-      le-leb 16 (length (bitsOf (s .waiting) (s .value) ++ replicate k false))
-      (simp length-append (omega (arith, length-bits (s .waiting) (s .value), length-replicate k false)))
-  finished Running =
-      let k = 8 * ((moreBits (takeSymbol (bitsOf (s .waiting) (s .value))) + 7) / 8) in
-      enough-bits (bitsOf (s .waiting) (s .value)) k (omega arith)
+      le-leb 16 (length (bitsOf (s .waiting) (s .value) ++ replicate (8 * fetchAs Header s) false))
+      (simp length-append (omega (arith, length-bits (s .waiting) (s .value), length-replicate (8 * fetchAs Header s) false)))
+  finished Running = enough-bits (bitsOf (s .waiting) (s .value)) (8 * fetchAs Running s) (omega arith)
   finished Complete = refl
   finished Closed = refl
   finished (Refused nr p) = refl
@@ -120,7 +118,8 @@ module _ (s : Session) where
       record { some = (pack f zs, length-pack f zs, bytes-pack f zs, rw u (finished (s .state))); fewer = λ bytes h. unfinished (s .state) bytes h }
 
 -- of a page's answer: with 0 where the session was unfit
-pub page-least : (s : Session) (bytes t : List ℕ) → 1 ≤ pageCall s bytes t .answer .fetch → Least (pageCall s bytes t .session) (pageCall s bytes t .answer .fetch)
+pub page-least : (s : Session) (bytes t : List ℕ) → 1 ≤ pageCall s bytes t .answer .fetch
+    → Least (pageCall s bytes t .session) (pageCall s bytes t .answer .fetch)
 unfolding pageCall fetching
 page-least s bytes t = go (fit s t)
   where
@@ -128,14 +127,15 @@ page-least s bytes t = go (fit s t)
     go true h = fetch-least (page s bytes t .session)
     go false h = absurd (omega arith)
 
--- the numbers that document 02 names: 2 on a new session, 1 after one header byte; in a symbol 2 with 11 and up to three bits after it, else 1; 0 when complete,
--- closed or refused
+-- the numbers that document 02 names: 2 on a new session, 1 after one header byte; in a symbol 2 with 11 and up to three bits after it, else 1; 0 when
+-- complete, closed or refused
 pub fetch-header : (s : Session) → s .state ≡ Header → ((s .waiting ≡ 0 → fetchOf s ≡ 2) × (s .waiting ≡ 8 → fetchOf s ≡ 1))
 unfolding fetchOf fetchAs wholeBytes
 fetch-header s e = (λ w. rw (e, w), λ w. rw (e, w))
 
--- bits that begin a symbol: how many are to come
-to-come : (bs : List Bool) → begins bs ≡ true → ((length bs ≤ 1 → moreBits (takeSymbol bs) ≡ 1) × (2 ≤ length bs → moreBits (takeSymbol bs) + length bs ≡ 14))
+-- bits that begin a symbol: one is to come with no bit or 1 at hand, and with 11 and m bits after it twelve less m
+pub to-come : (bs : List Bool) → begins bs ≡ true
+    → ((length bs ≤ 1 → moreBits (takeSymbol bs) ≡ 1) × (2 ≤ length bs → moreBits (takeSymbol bs) + length bs ≡ 14))
 unfolding begins takeSymbol moreBits takeIndex
 to-come [] g = (λ l. refl, λ l. absurd (omega arith))
 to-come (false ∷ bs) g = let z : _≡_ {A = ℕ} 0 1 = cc in absurd (omega arith)
@@ -146,20 +146,19 @@ to-come (true ∷ true ∷ bs) g =
     (λ k. absurd (omega arith), λ k. rw (lt-ltb (length bs) 12 (omega arith)) (omega arith))
 
 -- by how many bits wait: none, one, or 11 and those after it
-pub fetch-running : (s : Session) → s .state ≡ Running → begins (waitingOf s) ≡ true → s .waiting ≤ 13
+pub fetch-running : (s : Session) → s .state ≡ Running → begins (waitingOf s) ≡ true
     → (((s .waiting ≤ 1) ⊎ (6 ≤ s .waiting)) → fetchOf s ≡ 1) × ((2 ≤ s .waiting) × (s .waiting ≤ 5) → fetchOf s ≡ 2)
 unfolding fetchOf fetchAs waitingOf wholeBytes
-fetch-running s e g few = (one, λ (l, k). rw e (omega (arith, to-come bs g .1 (omega (arith, n)), n)))
+fetch-running s e g = (one, λ (l, k). rw e (omega (arith, to-come (bitsOf (s .waiting) (s .value)) g .1 (omega (arith, n)), n)))
   where
-    bs : List Bool
-    bs = bitsOf (s .waiting) (s .value)
-
     n : length (bitsOf (s .waiting) (s .value)) ≡ s .waiting
     n = length-bits (s .waiting) (s .value)
 
     one : (s .waiting ≤ 1) ⊎ (6 ≤ s .waiting) → fetchAs (s .state) s ≡ 1
     one (inl l) = rw e (omega (arith, to-come (bitsOf (s .waiting) (s .value)) g .0 (omega (arith, n))))
-    one (inr l) = rw e (omega (arith, to-come (bitsOf (s .waiting) (s .value)) g .1 (omega (arith, n)), n))
+    one (inr l) =
+        let m = begins-13 (bitsOf (s .waiting) (s .value)) g in
+        rw e (omega (arith, to-come (bitsOf (s .waiting) (s .value)) g .1 (omega (arith, n)), n))
 
 pub fetch-none : (s : Session) → (s .state ≡ Complete) ⊎ (s .state ≡ Closed) ⊎ ((nr p : ℕ) × (s .state ≡ Refused nr p)) → fetchOf s ≡ 0
 unfolding fetchOf fetchAs
@@ -167,12 +166,89 @@ fetch-none s (inl e) = rw e
 fetch-none s (inr (inl e)) = rw e
 fetch-none s (inr (inr (nr, p, e))) = rw e
 
--- Demand 3 with the number.
+-- what a reading wants
+unfoldable pub wants : Reading → ℕ
+wants (Reading.header bs) = wholeBytes (16 - length bs)
+wants (Reading.running w bs) = wholeBytes (moreBits (takeSymbol bs))
+wants (Reading.complete w) = 0
+wants (Reading.closed w) = 0
+wants (Reading.refused nr p u) = 0
+
+pub fetch-store : (r : Reading) → fetchOf (store r) ≡ wants r
+unfolding fetchOf fetchAs store wants held wholeBytes
+fetch-store (Reading.header bs) = unfold idle in refl
+fetch-store (Reading.running w bs) = rw (waiting-held Running w bs) (unfold held in refl)
+fetch-store (Reading.complete w) = unfold held in refl
+fetch-store (Reading.closed w) = unfold held in refl
+fetch-store (Reading.refused nr p u) = unfold idle in refl
+
+-- a header and a symbol that wait want something
+header-wants : (bs : List Bool) → (length bs ≡ 0) ⊎ (length bs ≡ 8) → 1 ≤ wholeBytes (16 - length bs)
+unfolding wholeBytes
+header-wants bs (inl e) = omega arith
+header-wants bs (inr e) = omega arith
+
+symbol-wants : (bs : List Bool) → begins bs ≡ true → 1 ≤ wholeBytes (moreBits (takeSymbol bs))
+unfolding wholeBytes
+symbol-wants bs g = go (decLt (length bs) 2)
+  where
+    go : Dec (length bs < 2) → 1 ≤ (moreBits (takeSymbol bs) + 7) / 8
+    go (yes l) = omega (arith, to-come bs g .0 (omega arith))
+    go (no l) = omega (arith, to-come bs g .1 (omega arith), begins-13 bs g)
+
+-- a reading that goes on wants something exactly if it is neither refused nor complete
+reading-wants : {r : Reading} → Fits r
+    → ((answerOf r .number ≢ 0) ⊎ (store r .state ≡ Complete) → wants r ≡ 0) × (answerOf r .number ≡ 0 → store r .state ≢ Complete → 1 ≤ wants r)
+unfolding wants answerOf plainAnswer goodAnswer store idle held
+reading-wants (Fits.header {bs} h) = (none, λ e c. header-wants bs h)
+  where
+    none : (_≢_ {A = ℕ} 0 0) ⊎ (Header ≡ Complete) → wholeBytes (16 - length bs) ≡ 0
+    none (inl z) = absurd (z refl)
+    none (inr e) = let z : _≡_ {A = ℕ} 0 1 = cc in absurd (omega arith)
+reading-wants (Fits.running {w} {bs} v h a) = (none, λ e c. symbol-wants bs (a .begun))
+  where
+    none : (_≢_ {A = ℕ} 0 0) ⊎ (Running ≡ Complete) → wholeBytes (moreBits (takeSymbol bs)) ≡ 0
+    none (inl z) = absurd (z refl)
+    none (inr e) = let z : _≡_ {A = ℕ} 0 1 = cc in absurd (omega arith)
+reading-wants (Fits.complete v h o c) = (λ e. refl, λ e c. absurd (c refl))
+reading-wants (Fits.refused {nr} {p} h) = (λ e. refl, λ e c. absurd (refused-some nr p h e))
 
 -- an unfit session
 unfit-page : (s : Session) (bytes t : List ℕ) → fit s t ≡ false → page s bytes t ≡ unchanged s t (plainAnswer 19 0)
 unfolding page ifFit
 unfit-page s bytes t e = rw e
+
+-- every page's answer: nothing is to be fetched exactly if it is a refusal, which is so of closed, refused and unfit sessions too, or complete
+pub record Wants (x : PageLeft) : Type 0 where
+  pub none : (x .answer .reading .number ≢ 0) ⊎ (x .session .state ≡ Complete) → x .answer .fetch ≡ 0
+  pub some : x .answer .reading .number ≡ 0 → x .session .state ≢ Complete → 1 ≤ x .answer .fetch
+
+pub page-wants : (s : Session) (bytes t : List ℕ) → length (s .positions) ≡ 7 → Wants (pageCall s bytes t)
+unfolding pageCall
+page-wants s bytes t seven = go (fit s t) refl
+  where
+    -- an answer that repeats a refusal
+    repeats : (nr p f : ℕ) → nr ≢ 0 → f ≡ 0 → Wants (fetching (unchanged s t (plainAnswer nr p)) f)
+    repeats nr p f n z = unfold fetching unchanged plainAnswer in record { none = λ _. z; some = λ e c. absurd (n e) }
+
+    view : FitSession s t → fit s t ≡ true → Wants (fetching (page s bytes t) (fetchOf (page s bytes t .session)))
+    view (FitSession.closed q) e =
+        let g : page s bytes t ≡ unchanged s t (plainAnswer 20 0) = unfold pageAs in page-as s bytes t Closed e q in
+        rw g (repeats 20 0 _ (omega arith) (unfold unchanged in fetch-none s (inr (inl q))))
+    view (FitSession.refused nr p q h) e =
+        let g : page s bytes t ≡ unchanged s t (plainAnswer nr p) = unfold pageAs in page-as s bytes t (Refused nr p) e q in
+        rw g (repeats nr p _ (refused-some nr p h) (unfold unchanged in fetch-none s (inr (inr (nr, p, q)))))
+    view (FitSession.reading r f o q u) e =
+        let x = feed r (unpack bytes) t in
+        let g : page s bytes t ≡ leaves x t = rw q (rw (← u) at (page-store f bytes t)) in
+        let (n, m) = reading-wants (feed-fits f (unpack bytes) t (whole-bytes bytes)) in
+        rw g (unfold fetching leaves in record { none = λ h. fetch-store x ∙ n h; some = λ h c. rw (fetch-store x) (m h c) })
+
+    go : (b : Bool) → fit s t ≡ b → Wants (fetching (page s bytes t) (cond b (fetchOf (page s bytes t .session)) 0))
+    go true e = view (fit-session s t seven e) e
+    go false e = rw (unfit-page s bytes t e) (repeats 19 0 0 (omega arith) refl)
+
+-- Demand 3 with the number.
 
 -- one page is the same bytes in two
 pub two-calls : (s : Session) (xs ys t : List ℕ) → length (s .positions) ≡ 7
@@ -235,22 +311,6 @@ pages-read ps t = rw (pages-are ps t) (close-reads (whole ps) t)
 
 -- A client.
 
--- what a reading wants
-unfoldable pub wants : Reading → ℕ
-wants (Reading.header bs) = wholeBytes (16 - length bs)
-wants (Reading.running w bs) = wholeBytes (moreBits (takeSymbol bs))
-wants (Reading.complete w) = 0
-wants (Reading.closed w) = 0
-wants (Reading.refused nr p u) = 0
-
-pub fetch-store : (r : Reading) → fetchOf (store r) ≡ wants r
-unfolding fetchOf fetchAs store wants held wholeBytes
-fetch-store (Reading.header bs) = unfold idle in refl
-fetch-store (Reading.running w bs) = rw (waiting-held Running w bs) (unfold held in refl)
-fetch-store (Reading.complete w) = unfold held in refl
-fetch-store (Reading.closed w) = unfold held in refl
-fetch-store (Reading.refused nr p u) = unfold idle in refl
-
 -- a reading that closing accepts is complete
 accepted : {r : Reading} → Fits r → (t : List ℕ) → answerOf (closing r t) .number ≡ 0 → (w : Walk) × (r ≡ Reading.complete w)
 unfolding closing answerOf spoiled plainAnswer
@@ -269,45 +329,76 @@ not-refused : {nr p : ℕ} {u : List ℕ} {w : Walk} {A : Type 0} → Reading.re
 not-refused e = let z : _≡_ {A = ℕ} 0 1 = cc in absurd (omega arith)
 
 -- bits that do not finish the symbol leave a walk that asks for it where it is
-stays-running : (w : Walk) (bs ys : List Bool) → Asks w bs → isWhole (takeSymbol (bs ++ ys)) ≡ false → settle (runAll w (bs ++ ys)) ≡ Reading.running w (bs ++ ys)
+stays-running : (w : Walk) (bs ys : List Bool) → Asks w bs → isWhole (takeSymbol (bs ++ ys)) ≡ false
+    → settle (runAll w (bs ++ ys)) ≡ Reading.running w (bs ++ ys)
 stays-running w bs ys a = go (takeSymbol (bs ++ ys)) refl
   where
     go : (t : Taken) → takeSymbol (bs ++ ys) ≡ t → isWhole t ≡ false → settle (runAll w (bs ++ ys)) ≡ Reading.running w (bs ++ ys)
     go (Taken.short k) q e = unfold runAll run onward enough step stepAt stepWith stepTaken settle in rw (a .next, a .needs, q)
     go (Taken.symbol s rest) q e = unfold isWhole in let z : _≡_ {A = ℕ} 0 1 = cc in absurd (omega arith)
 
+-- a reading that waits on, with more bits
+unfoldable pub waitsOn : Reading → List Bool → Reading
+waitsOn (Reading.header bs) ys = Reading.header (bs ++ ys)
+waitsOn (Reading.running w bs) ys = Reading.running w (bs ++ ys)
+waitsOn (Reading.complete w) ys = Reading.complete w
+waitsOn (Reading.closed w) ys = Reading.closed w
+waitsOn (Reading.refused nr p u) ys = Reading.refused nr p u
+
+-- what finishing is to a page: bytes that do not finish what waits are put to it and no step is done
+pub unfinished-waits : {r : Reading} → Fits r → (bytes t : List ℕ) → finishes (store r) bytes ≡ false → feed r (unpack bytes) t ≡ waitsOn r (unpack bytes)
+unfolding finishes finishesAs feed waitsOn store idle held readingOf readHeader
+unfinished-waits (Fits.header {bs} h) bytes t e =
+    let q : leb 16 (length (bs ++ unpack bytes)) ≡ false = rw (waiting-idle Header bs) at e in
+    rw q
+unfinished-waits (Fits.running {w} {bs} v h a) bytes t e = stays-running w bs (unpack bytes) a (rw (waiting-held Running w bs) at e)
+unfinished-waits (Fits.complete v h o c) bytes t e = let z : _≡_ {A = ℕ} 0 1 = cc in absurd (omega arith)
+unfinished-waits (Fits.refused h) bytes t e = let z : _≡_ {A = ℕ} 0 1 = cc in absurd (omega arith)
+
+-- and bytes that finish it are not
+fits-header : {bs : List Bool} → Fits (Reading.header bs) → length bs ≤ 8
+fits-header (Fits.header (inl e)) = omega arith
+fits-header (Fits.header (inr e)) = omega arith
+
+fits-running : {w : Walk} {bs : List Bool} → Fits (Reading.running w bs) → begins bs ≡ true
+fits-running (Fits.running v h a) = a .begun
+
+pub finished-goes : {r : Reading} → Fits r → fetchOf (store r) ≢ 0 → (bytes t : List ℕ) → finishes (store r) bytes ≡ true
+    → feed r (unpack bytes) t ≢ waitsOn r (unpack bytes)
+unfolding finishes finishesAs waitsOn store idle held isWhole
+finished-goes (Fits.header {bs} h) some bytes t e q =
+    let f : Fits (Reading.header (bs ++ unpack bytes)) = subst Fits q (feed-fits (Fits.header {bs = bs} h) (unpack bytes) t (whole-bytes bytes)) in
+    let l = leb-true 16 (length (bs ++ unpack bytes)) (rw (waiting-idle Header bs) at e) in
+    omega (arith, fits-header f)
+finished-goes (Fits.running {w} {bs} v h a) some bytes t e q =
+    let f : Fits (Reading.running w (bs ++ unpack bytes)) = subst Fits q (feed-fits (Fits.running {bs = bs} v h a) (unpack bytes) t (whole-bytes bytes)) in
+    let g : isWhole (takeSymbol (bs ++ unpack bytes)) ≡ false = rw (begins-short (bs ++ unpack bytes) (fits-running f)) in
+    let k : isWhole (takeSymbol (bs ++ unpack bytes)) ≡ true = rw (waiting-held Running w bs) at e in
+    let z : _≡_ {A = ℕ} 0 1 = cc in
+    omega arith
+finished-goes (Fits.complete {w} v h o c) some bytes t e q = some (fetch-none _ (inl refl))
+finished-goes (Fits.refused {nr} {p} h) some bytes t e q = some (fetch-none _ (inr (inr (nr, p, refl))))
+
 -- enough bytes are left where reading them as well comes to complete, and none where nothing waits
 enough-left : {r : Reading} → Fits r → (ys t : List ℕ) (w : Walk) → feed r (unpack ys) t ≡ Reading.complete w
     → (wants r ≤ length ys) × (wants r ≡ 0 → ys ≡ [])
 unfolding feed wants wholeBytes afterEnd spoiled
-enough-left (Fits.header {bs} h) ys t w e = (bound, λ z. absurd (small h z))
+enough-left (Fits.header {bs} h) ys t w e = (bound (leb 16 (length (bs ++ unpack ys))) refl, λ z. absurd (omega (arith, header-wants bs h)))
   where
-    bound : wholeBytes (16 - length bs) ≤ length ys
-    bound = go (leb 16 (length (bs ++ unpack ys))) refl
-      where
-        go : (b : Bool) → leb 16 (length (bs ++ unpack ys)) ≡ b → wholeBytes (16 - length bs) ≤ length ys
-        go true q = unfold wholeBytes in omega (arith, leb-true 16 (length (bs ++ unpack ys)) q, length-append bs (unpack ys), length-unpack ys)
-        go false q = not-header {bs = bs ++ unpack ys} {w = w} (unfold readingOf readHeader in rw q at e)
-
-    small : (length bs ≡ 0) ⊎ (length bs ≡ 8) → wholeBytes (16 - length bs) ≡ 0 → ⊥
-    small (inl h) z = omega arith
-    small (inr h) z = omega arith
-enough-left (Fits.running {w = w1} {bs} v h a) ys t w e = (bound (decLt (length ys) (wholeBytes (moreBits (takeSymbol bs)))), λ z. absurd (some z))
+    bound : (b : Bool) → leb 16 (length (bs ++ unpack ys)) ≡ b → wholeBytes (16 - length bs) ≤ length ys
+    bound true q = unfold wholeBytes in omega (arith, leb-true 16 (length (bs ++ unpack ys)) q, length-append bs (unpack ys), length-unpack ys)
+    bound false q = not-header {bs = bs ++ unpack ys} {w = w} (unfold readingOf readHeader in rw q at e)
+enough-left (Fits.running {w = w1} {bs} v h a) ys t w e =
+    (bound (decLt (length ys) (wholeBytes (moreBits (takeSymbol bs)))), λ z. absurd (omega (arith, symbol-wants bs (a .begun))))
   where
     bound : Dec (length ys < wholeBytes (moreBits (takeSymbol bs))) → wholeBytes (moreBits (takeSymbol bs)) ≤ length ys
     bound (no n) = omega arith
     bound (yes l) =
         let f = fewer-bits bs (unpack ys) (unfold wholeBytes in omega (arith, length-unpack ys)) in
         not-running (sym (stays-running w1 bs (unpack ys) a f) ∙ e)
-
-    some : wholeBytes (moreBits (takeSymbol bs)) ≡ 0 → ⊥
-    some z = go (decLt (length bs) 2)
-      where
-        go : Dec (length bs < 2) → ⊥
-        go (yes l) = omega (arith, to-come bs (a .begun) .0 (omega arith))
-        go (no l) = omega (arith, to-come bs (a .begun) .1 (omega arith), begins-13 bs (a .begun))
 enough-left (Fits.complete v h o c) [] t w e = (omega arith, λ z. refl)
-enough-left (Fits.complete {w = w1} v h o c) (y ∷ ys) t w e = unfold unpack bitsOf in after (bitsOf 8 y ++ unpack ys) (simp length-append (omega (arith, length-bits 8 y))) e
+enough-left (Fits.complete {w = w1} v h o c) (y ∷ ys) t w e = unfold unpack bitsOf in
+    after (bitsOf 8 y ++ unpack ys) (simp length-append (omega (arith, length-bits 8 y))) e
   where
     after : (bits : List Bool) → 1 ≤ length bits → afterEnd w1 bits ≡ Reading.complete w → (0 ≤ length (y ∷ ys)) × (_≡_ {A = ℕ} 0 0 → y ∷ ys ≡ [])
     after [] l e = absurd (omega arith)

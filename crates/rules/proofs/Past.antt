@@ -28,6 +28,7 @@ use Rattle.rules.specs.Reading.{Run, Step, permitted, fault, allow, step
 use Rattle.rules.specs.Reading.{test, manifold, finish, settle, begun, headerDim, headerDarts, readHeader, readingOf, closing, goodAnswer}
 use Rattle.rules.specs.Reading.{answerOf, tablesOf, readWhole, readAnswer, readTables}
 use Rattle.rules.specs.Session.{idle, held, store, walkAt, walkOf, waitingOf, valueFits, entryFits, entriesFit, walkFits, asks, begins, fitAs}
+use Rattle.rules.specs.Fetch.{fetching, pageCall}
 use Rattle.rules.specs.Session.{fit, Left, unchanged, leaves, goOn, afterEnd, pageAs, closeAs, ifFit, page, close}
 use Rattle.rules.specs.Report.{reportAnswerOf, reportAnswer, reportWork}
 use Rattle.rules.proofs.Lists.{below-same, some-same, first-same}
@@ -533,6 +534,13 @@ pub page-alike : (s : Session) (bytes t u : List ℕ) → length (s .positions) 
 page-alike s bytes t u seven A = same-left (reach s (unpack bytes)) (page s bytes) (λ m x h. page-carried s bytes m x seven h)
     (λ l. page-past s bytes l seven) t u A
 
+-- and so are the bytes to fetch after it
+pub fetch-alike : (s : Session) (bytes t u : List ℕ) → length (s .positions) ≡ 7 → Alike (reach s (unpack bytes)) t u
+    → pageCall s bytes t .answer .fetch ≡ pageCall s bytes u .answer .fetch
+unfolding pageCall fetching leftTailed
+fetch-alike s bytes t u seven A = alike-by (reach s (unpack bytes)) (λ l. pageCall s bytes l .answer .fetch)
+    (λ m x h. rw (fit-carried s seven (unpack bytes) m x h, page-carried s bytes m x seven h)) t u A
+
 -- closing, on any session
 pub close-alike : (s : Session) (t u : List ℕ) → length (s .positions) ≡ 7 → Alike (reach s []) t u → SameLeft (reach s []) t (close s t) (close s u)
 close-alike s t u seven A = same-left (reach s []) (close s) (λ m x h. close-carried s m x seven h) (λ l. close-past s l seven) t u A
@@ -597,6 +605,10 @@ fit-links s t u seven S = fit-alike s t u seven (sizes-alike s [] t u S)
 pub page-links : (s : Session) (bytes t u : List ℕ) → length (s .positions) ≡ 7 → SameMap (sizes s (unpack bytes) .0) (sizes s (unpack bytes) .1) t u
     → LinksLeft (sizes s (unpack bytes) .0) (sizes s (unpack bytes) .1) (page s bytes t) (page s bytes u)
 page-links s bytes t u seven S = links-left s (unpack bytes) t _ _ (page-alike s bytes t u seven (sizes-alike s (unpack bytes) t u S))
+
+pub fetch-links : (s : Session) (bytes t u : List ℕ) → length (s .positions) ≡ 7 → SameMap (sizes s (unpack bytes) .0) (sizes s (unpack bytes) .1) t u
+    → pageCall s bytes t .answer .fetch ≡ pageCall s bytes u .answer .fetch
+fetch-links s bytes t u seven S = fetch-alike s bytes t u seven (sizes-alike s (unpack bytes) t u S)
 
 pub close-links : (s : Session) (t u : List ℕ) → length (s .positions) ≡ 7 → SameMap (sizes s [] .0) (sizes s [] .1) t u
     → LinksLeft (sizes s [] .0) (sizes s [] .1) (close s t) (close s u)

@@ -115,7 +115,8 @@ module _ {N n : ℕ} {s0 : Stand} {c0 : Cursor} {t0 page : List ℕ} {k : ℕ} {
     pub run-waits : (m : ℕ) → r ≡ turned.Waits m → Runs N n s0 c0 t0 page (ran (stand k ps') c (Waits m)) t'
     unfolding toldTurn signalRun Again
     run-waits m q =
-        stop (Waits m) ps' t' (sym (rw q at (x .tells))) (λ z. apart (Waits m) Ended (omega arith) z) (λ i z. (rw q at (x .again)) ∙ ap Taken.short (ap bitsOfSignal z))
+        stop (Waits m) ps' t' (sym (rw q at (x .tells))) (λ z. apart (Waits m) Ended (omega arith) z)
+        (λ i z. (rw q at (x .again)) ∙ ap Taken.short (ap bitsOfSignal z))
 
     pub run-refused : (nr : ℕ) → r ≡ turned.Refused nr → Runs N n s0 c0 t0 page (ran (stand k ps') c (Refused nr)) t'
     unfolding toldTurn signalRun

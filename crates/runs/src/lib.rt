@@ -81,7 +81,7 @@ pub fn asked(
         (now (positions .exit)) (now (tables .exit)) ⌝ }
 {
     match c.take_symbol(page) {
-        Taken::Short(bits) => Turned::Waits(bits),
+        Taken::Short(bits) => Turned::Waits(bits as u32),
         Taken::Symbol(s, d) => after(
             steps::by_symbol(tables, positions, dim, darts, count, j, b, s),
             d,

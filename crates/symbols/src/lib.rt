@@ -28,18 +28,19 @@ pub struct Hand {
     pub at: usize,
 }
 
-// How a symbol begins: bits ran out, with how many more could at least finish it, or those that wait hold it whole, with
-// the cursor past it, or they and those of the cursor's byte are in a hand.
+// How a symbol begins: bits ran out, with how many more could at least finish it; or those that wait hold it whole,
+// with the cursor past it; or they and those of the cursor's byte are in a hand.
 pub enum First {
-    Out(u32),
+    Out(u8),
     New(Cursor),
     Border(Cursor),
     Is(Hand),
 }
 
-// The next symbol, with the cursor past it, or bits ran out, with how many more could at least finish it.
+// The next symbol, with the cursor past it, or bits ran out, with how many more could at least finish it. A byte holds
+// that, and in memory it lies beside what a symbol has, not across it: so a symbol that is there costs nothing for it.
 pub enum Taken {
-    Short(u32),
+    Short(u8),
     Symbol(Symbol, Cursor),
 }
 
@@ -67,11 +68,11 @@ impl Hand {
     }
 
     // How many more bits could at least finish the symbol.
-    pub fn missing(self) -> u32
+    pub fn missing(self) -> u8
         requires { ⌜ (self .head < 2 ^ 24) × (self .bits ≤ size (bitsOf 24 (self .head))) ⌝ }
         ensures { λ r. ⌜ r + self .bits ≡ size (bitsOf 24 (self .head)) ⌝ }
     {
-        self.size() - self.bits
+        (self.size() - self.bits) as u8
     }
 
     // With the page's next byte, from one of its bits on. This is the one look at the page.

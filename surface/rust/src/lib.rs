@@ -88,7 +88,7 @@ mod surface {
             bytes_length: usize,
             tables: *mut u16,
             tables_length: usize,
-            answer: *mut [u32; 5],
+            answer: *mut [u32; 6],
         ) -> u32;
         pub fn kz_close(record: *mut [u32; 15], tables: *mut u16, tables_length: usize, answer: *mut [u32; 5]) -> u32;
         pub fn kz_report(
@@ -149,7 +149,7 @@ pub struct WriteAnswer {
     pub length: usize,
 }
 
-/// The answer of an accepted reading, or of a page after which the session waits for more.
+/// The answer of an accepted reading, or that part of a page's answer after which the session waits for more.
 #[derive(Clone, Copy, Debug, PartialEq, Eq)]
 pub struct ReadAnswer {
     /// The steps done so far.
@@ -158,6 +158,17 @@ pub struct ReadAnswer {
     pub dim: usize,
     /// The number of darts; 0 until a header is accepted.
     pub darts: usize,
+}
+
+/// The answer of a page that was accepted, or after which the session waits for more.
+#[derive(Clone, Copy, Debug, PartialEq, Eq)]
+pub struct PageAnswer {
+    /// How far the reading has come.
+    pub reading: ReadAnswer,
+    /// The least number of bytes that could finish the header or the symbol that waits: 2 on a new session, 1 after one
+    /// header byte, 1 or 2 while the walk runs, and 0 when the stream is complete. Of an accepted stream at least so
+    /// many bytes are left: who always asks for just these reads it to its end and never asks past it.
+    pub fetch: usize,
 }
 
 /// The answer of an accepted [`report`].
@@ -337,8 +348,26 @@ impl Session {
     /// Refused by 19 if the session is not fit, or the tables do not go with it; by 20 if it is closed; else as
     /// [`read`] but for 11. A refused session repeats its refusal; 12, which no reading gives any more, is only so
     /// answered, to a record that was refused with it.
-    pub fn page(&mut self, bytes: &[u8], tables: &mut [u16]) -> Result<ReadAnswer, Refusal> {
-        let mut answer = [0; 5];
+    ///
+    /// A client that asks for no more bytes than are needed, of a feed that gives as many as it is asked for:
+    ///
+    /// ```
+    /// let feed = [0x10, 0x01, 0x50];
+    /// let (mut session, mut tables) = (kanzhulet::Session::open(), [0; 4]);
+    /// let (mut at, mut fetch) = (0, 2);
+    /// while fetch > 0 {
+    ///     let page = &feed[at..feed.len().min(at + fetch)];
+    ///     if page.is_empty() {
+    ///         break; // the feed ended early: closing answers 11
+    ///     }
+    ///     at += page.len();
+    ///     fetch = session.page(page, &mut tables)?.fetch;
+    /// }
+    /// assert_eq!(session.close(&mut tables)?.steps, 4);
+    /// # Ok::<(), kanzhulet::Refusal>(())
+    /// ```
+    pub fn page(&mut self, bytes: &[u8], tables: &mut [u16]) -> Result<PageAnswer, Refusal> {
+        let mut answer = [0; 6];
         // SAFETY: as in `read`; the record too is borrowed as mutable over the call.
         let number = unsafe {
             surface::kz_page(
@@ -350,7 +379,9 @@ impl Session {
                 &mut answer,
             )
         };
-        reading(number, answer)
+        let [stored, place, steps, dim, darts, fetch] = answer;
+        let reading = reading(number, [stored, place, steps, dim, darts])?;
+        Ok(PageAnswer { reading, fetch: fetch as usize })
     }
 
     /// The end of the stream. Accepted if the whole stream was read; refused by 11 if it is cut, and as

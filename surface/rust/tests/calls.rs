@@ -5,7 +5,8 @@ mod maps;
 mod rooms;
 
 use kanzhulet::{
-    ReadAnswer, Refusal, ReportAnswer, State, WriteAnswer, MAX_DARTS, MAX_STREAM, MAX_TABLES, MAX_WORK, NO_LINK, RECORD,
+    PageAnswer, ReadAnswer, Refusal, ReportAnswer, State, WriteAnswer, MAX_DARTS, MAX_STREAM, MAX_TABLES, MAX_WORK,
+    NO_LINK, RECORD,
 };
 use maps::{post_chain, post_free, post_pairs, post_ring, post_squares, tie, Sample, SAMPLES};
 use rooms::{refused, Lent, Map, NUMBERS, SPARE};
@@ -45,6 +46,9 @@ themes! {
     unfit_records_are_left,
     lent_refusals_and_closed_records,
     lent_session_goes_on,
+    fetch_is_least,
+    fetch_each_stream,
+    fetch_after_each_byte,
     numbers_out_of_range,
     rooms_one_entry_short,
     entries_not_below_n,
@@ -161,9 +165,13 @@ fn read_known_tables(lent: &mut Lent) {
 
 // Reading: sessions.
 
-fn give(lent: &mut Lent, bytes: &[u8]) -> Reply {
+fn give_page(lent: &mut Lent, bytes: &[u8]) -> Result<PageAnswer, Refusal> {
     lent.page.lend_copy(bytes);
     lent.page()
+}
+
+fn give(lent: &mut Lent, bytes: &[u8]) -> Reply {
+    give_page(lent, bytes).map(|a| a.reading)
 }
 
 fn open_in(lent: &mut Lent, room: usize) {
@@ -397,6 +405,82 @@ fn lent_session_goes_on(lent: &mut Lent) {
     expect_page(lent, &[0x80], reading(4, 1, 2));
     lent.must(lent.built.at() == [0, 0, 0, 1], "the last link is set");
     expect_close(lent, reading(4, 1, 2));
+}
+
+// How much to fetch.
+
+/// A symbol that waits, with the first of the fourteen bits 11 and twelve zeros, at the first step of a map of two
+/// darts.
+fn lend_waiting(lent: &mut Lent, bits: u32) {
+    lent.take_up(record_of(&[1, 0, 0, 1, 2, 1, 0, 0, 0, 0, 0, 0, 0, bits, 0x3000 >> (14 - bits)]));
+    lent.built.lend_copy(&[NO; 4]);
+}
+
+/// A page of fewer bytes than are to be fetched leaves the symbol waiting, with more bits and no step done. How many
+/// are to be fetched then.
+#[track_caller]
+fn expect_waiting(lent: &mut Lent, bits: u32, bytes: &[u8]) -> usize {
+    lend_waiting(lent, bits);
+    let answer = give_page(lent, bytes);
+    lent.expect(answer.map(|a| a.reading), reading(0, 1, 2));
+    let waiting = lent.record()[13] as usize == bits as usize + 8 * bytes.len();
+    lent.must(lent.state() == Some(State::Running) && waiting, "the symbol waits with more bits");
+    answer.map_or(0, |a| a.fetch)
+}
+
+/// For each number of bits that wait: no fewer bytes than are said finish the symbol, whatever they are; so many do.
+fn fetch_is_least(lent: &mut Lent) {
+    lent.begin("bytes to fetch");
+    for bits in 0..=13 {
+        let fetch = expect_waiting(lent, bits, &[]);
+        lent.must(fetch == if (2..=5).contains(&bits) { 2 } else { 1 }, "one byte or two are to be fetched");
+        if fetch == 2 {
+            for byte in 0..=255 {
+                expect_waiting(lent, bits, &[byte]);
+            }
+        }
+        lend_waiting(lent, bits);
+        let finished = match give(lent, &[0, 0][..fetch]) {
+            Ok(answer) => answer.steps > 0,
+            Err(refusal) => refusal.place > 0 || refusal.number == 22,
+        };
+        lent.must(finished, "steps are done, or the dart named is refused");
+    }
+}
+
+/// A client that always asks for as many bytes as the last answer said; it begins with a page of none. An accepted
+/// stream it reads to its end, and never asks past it.
+fn fetch_each_stream(lent: &mut Lent) {
+    for &(name, bytes, room, ..) in READINGS {
+        lent.begin(name);
+        let whole = read_whole(lent, bytes, room);
+        open_in(lent, room);
+        let (mut at, mut fetch) = (0, give_page(lent, &[]).map_or(0, |a| a.fetch));
+        while fetch > 0 && at + fetch <= bytes.len() {
+            let answer = give_page(lent, &bytes[at..at + fetch]);
+            at += fetch;
+            fetch = answer.map_or(0, |a| a.fetch);
+        }
+        let whole_read = at == bytes.len() && fetch == 0;
+        lent.must(whole.answer.is_err() || whole_read, "an accepted stream is read to its end and not past it");
+        feed_page(lent, &bytes[at..], &whole);
+        expect_close_as_whole(lent, &whole);
+    }
+}
+
+/// The numbers that the requirements name, byte by byte, up to 0 when complete.
+fn fetch_after_each_byte(lent: &mut Lent) {
+    lent.begin("bytes to fetch after each byte");
+    open_in(lent, 8);
+    let pages: [(&[u8], usize); 6] =
+        [(&[], 2), (&[0x10], 1), (&[], 1), (&[0x03], 1), (&[0x18], 2), (&[0x00], 1)];
+    for (bytes, fetch) in pages {
+        let answer = give_page(lent, bytes);
+        lent.must(answer.map(|a| a.fetch) == Ok(fetch), "so many bytes are to be fetched");
+    }
+    open_in(lent, 4);
+    let answer = give_page(lent, &[0x10, 0x01, 0x50]);
+    lent.must(answer.map(|a| a.fetch) == Ok(0), "nothing is to be fetched when complete");
 }
 
 // Posted maps: refusals.

@@ -51,7 +51,7 @@ returns-2 c =
     let a = asked .before .before .before .args in
     let e = close-stored _ _ (called .close .ensures) (kept .stored-session .ensures) (c .read-numbers .ensures) in (
       by-session (λ s. stored (close s (a .tables .now))) (readNumbers (plainAnswer 19 0)) (a .kept .now) (a .tables .now)
-      (asked .stands .ensures) (tested .if1 .left) (given .session-of .ensures) _ e,
+          (asked .stands .ensures) (tested .if1 .left) (given .session-of .ensures) _ e,
       rw (c .read-numbers .ensures) refl,
     )
 

@@ -58,7 +58,7 @@ returns-2 c =
     let a = asked .before .before .before .before .args in
     let e = page-stored _ _ (called .page .ensures) (kept .stored-session .ensures) (stored .page-numbers .ensures) in (
       by-session (λ s. pageStored (pageCall s (a .bytes .now) (a .tables .now))) unfit (a .kept .now) (a .tables .now)
-      (asked .stands .ensures) (tested .if1 .left) (given .session-of .ensures) _ e,
+          (asked .stands .ensures) (tested .if1 .left) (given .session-of .ensures) _ e,
       rw (stored .page-numbers .ensures) refl,
     )
 

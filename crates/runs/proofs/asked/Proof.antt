@@ -14,6 +14,9 @@ take-symbol-requires c κs = search needs
 enum-known-bits : tie.Need-enum-known-bits
 enum-known-bits c = search needs
 
+cast-t15 : tie.Need-cast-t15
+cast-t15 c = search needs
+
 enum-known-s : tie.Need-enum-known-s
 enum-known-s c = search needs
 
@@ -48,6 +51,7 @@ asked-spec =
     (tie.spec
     take-symbol-requires
     enum-known-bits
+    cast-t15
     enum-known-s
     by-symbol-requires
     after-requires

@@ -1,7 +1,6 @@
 -- `stored::unfit_numbers` meets its contract: the numbers of the answer. Assumes nothing.
 use mathlib.Core.Path.{ap, _∙_}
 use borrow.Author.Needs.{needs}
-use Rattle.rules.specs.declared.ReadAnswer.{ReadAnswer}
 use Rattle.stored.specs.Answers.{readNumbers}
 use Rattle.stored.proofs.unfit_numbers.Statement.{statement}
 use Rattle.stored.proofs.unfit_numbers.Tie as tie

@@ -2,7 +2,9 @@
 //! function lends the rooms, makes the call, and checks what `kanzhulet.h` says of every such call, whatever was lent.
 //! The cases in `calls.rs` add what they know about their own input.
 
-use kanzhulet::{ReadAnswer, Refusal, ReportAnswer, Session, State, WriteAnswer, MAX_DARTS, MAX_DIM, NO_LINK, RECORD};
+use kanzhulet::{
+    PageAnswer, ReadAnswer, Refusal, ReportAnswer, Session, State, WriteAnswer, MAX_DARTS, MAX_DIM, NO_LINK, RECORD,
+};
 
 pub const GUARD: usize = 32;
 pub const SPARE: usize = 32;
@@ -327,15 +329,18 @@ impl Lent {
     }
 
     #[track_caller]
-    pub fn page(&mut self) -> Result<ReadAnswer, Refusal> {
+    pub fn page(&mut self) -> Result<PageAnswer, Refusal> {
         let given = self.record();
         let entries = header_entries(&given, self.page.at());
         self.before_call();
         let answer = self.sessions[1].page(self.page.at(), self.built.at_mut());
         self.after_call(&answer, 23);
-        self.after_session(answer, given, entries);
+        self.after_session(answer.map(|a| a.reading), given, entries);
         self.must(number_of(&answer) != 11 || given[0] == 4, "a page does not cut the stream");
         self.must(answer.is_err() || self.record()[0] <= 2, "a page does not close");
+        if let Ok(a) = answer {
+            self.must(a.fetch == bytes_to_fetch(&self.record()), "as many bytes are to be fetched as could finish it");
+        }
         answer
     }
 
@@ -354,6 +359,17 @@ impl Lent {
             self.must(self.state() == Some(State::Closed) && kept, "closing changes the state alone");
         }
         answer
+    }
+}
+
+/// The bytes to fetch, by the record that a page leaves: of a header those that are not there, of a symbol by how many
+/// of its bits wait.
+fn bytes_to_fetch(record: &[u32; RECORD]) -> usize {
+    match (record[0], record[13]) {
+        (0, bits) => 2 - bits as usize / 8,
+        (1, 2..=5) => 2,
+        (1, _) => 1,
+        _ => 0,
     }
 }
 

@@ -52,7 +52,8 @@ missing-requires-2 c κs =
 returns-2 : tie.Need-returns-2
 returns-2 c = λ d r.
     let (o, e, m) = one-more (c .before .before .before .before .before) in
-    hand-short (o .reads d r .inHand) _ (omega (arith, c .before .before .before .if3 .taken)) (c .missing2 .ensures ∙ head-size (o .fits)) (c .before .if4 .taken)
+    let k = c .missing2 .ensures ∙ head-size (o .fits) in
+    hand-short (o .reads d r .inHand) _ (omega (arith, c .before .before .before .if3 .taken)) k (c .before .if4 .taken)
 
 -- with a second one, if it takes two
 two-more : (c : tie.Joined3) → let a = c .before .before .before .before .before .args in
@@ -97,4 +98,16 @@ returns-3 c = λ d r.
     told-symbol d page (held h) (unpack (drop (h .at) page)) (q .inHand .same) 14 e l _ (Index _) t (c .past .ensures d page q (omega (arith, q .longer)))
 
 pub take-index-spec : {M : Type 1} → statement M
-take-index-spec = tie.close (tie.spec missing-requires returns loaded-requires missing-requires-2 returns-2 loaded-requires-2 sub-t13 cast-t14 past-requires returns-3)
+take-index-spec =
+    tie.close
+    (tie.spec
+    missing-requires
+    returns
+    loaded-requires
+    missing-requires-2
+    returns-2
+    loaded-requires-2
+    sub-t13
+    cast-t14
+    past-requires
+    returns-3)
