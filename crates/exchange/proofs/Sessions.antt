@@ -1,15 +1,16 @@
 -- Sessions at the surface: a call on the stored numbers of a session is the call on the session; demand 3 of calls that meet the surface's contracts. Rests on
 -- the stored record's Sessions and on the rules' Sessions.
-use Prim.Native.Nat.{ℕ}
+use Prim.Native.Nat.{ℕ, _≤_}
 use mathlib.Core.Path.{_≡_, refl, ap, _∙_}
 use mathlib.Core.List.{List, [], _∷_, _++_, append-nil, append-assoc}
+use lib.ListN.{length, getD}
 use Rattle.rules.specs.declared.Session.{Session}
 use Rattle.rules.specs.Stream.{value, unpack}
 use Rattle.rules.specs.Reading.{readingOf, readHeader, answerOf, tablesOf, readWhole, readAnswer, readTables}
 use Rattle.rules.specs.Session.{idle, store, opened, leaves, close, recordFor, tablesFor}
 use Rattle.rules.specs.Fetch.{fetchOf, pageCall}
 use Rattle.rules.proofs.Sessions.{whole, close-whole}
-use Rattle.rules.proofs.Fetch.{call-reads}
+use Rattle.rules.proofs.Fetch.{call-reads, never-past}
 use Rattle.stored.specs.Answers.{readNumbers, pageNumbers}
 use Rattle.stored.specs.Layout.{storedSession}
 use Rattle.stored.proofs.Sessions.{Narrow, stands-stored, session-back, record-narrow}
@@ -61,6 +62,13 @@ pub given-rooms : (p : List ℕ) (ps : List (List ℕ)) (t a : List ℕ) (z : Le
     → Given (p ∷ ps) (lent (storedSession opened) a t) z → z ≡ roomsFor (whole (p ∷ ps)) t
 unfolding whole
 given-rooms p ps t a z (Given.more y ey g) = given-from p t (ey ∙ opening-page p t) g
+
+-- and of an accepted stream at least as many bytes are left as the answer's sixth number says, and none where it is 0
+pub given-left : (p : List ℕ) (ps : List (List ℕ)) (rest t a : List ℕ) (z : Lent)
+    → Given (p ∷ ps) (lent (storedSession opened) a t) z → readAnswer (whole (p ∷ ps) ++ rest) t .number ≡ 0
+    → (getD (z .answer) 5 0 ≤ length rest) × (getD (z .answer) 5 0 ≡ 0 → rest ≡ [])
+unfolding roomsFor
+given-left p ps rest t a z g e = rw (given-rooms p ps t a z g) (never-past (whole (p ∷ ps)) rest t e)
 
 -- closing the rooms for some bytes
 close-rooms : (bytes t : List ℕ) → closeLent (storedSession (recordFor bytes t)) (tablesFor bytes t) ≡ stored (leaves (readWhole bytes t) t)

@@ -1,8 +1,9 @@
 -- Demand 3 over a lent record: what calls leave that meet the contracts of `lent::page` and `lent::close`. Each is such a call by value, so the reader's
 -- Demands say it.
-use Prim.Native.Nat.{ℕ}
+use Prim.Native.Nat.{ℕ, _≤_}
 use mathlib.Core.Path.{_≡_}
-use mathlib.Core.List.{List, [], _∷_}
+use mathlib.Core.List.{List, [], _∷_, _++_}
+use lib.ListN.{length}
 use Rattle.rules.specs.declared.Session.{Session}
 use Rattle.rules.specs.declared.PageAnswer.{PageAnswer}
 use Rattle.rules.specs.declared.ReadAnswer.{ReadAnswer}
@@ -13,7 +14,7 @@ use Rattle.rules.specs.Fetch.{fetchOf, PageLeft, pageCall}
 use Rattle.rules.proofs.Sessions.{whole}
 use Rattle.rules.proofs.Fetch.{opening}
 use Rattle.records.specs.Lefts.{leftBy}
-use Rattle.reader.proofs.Demands.{Fed, fed-record, fed-read}
+use Rattle.reader.proofs.Demands.{Fed, fed-record, fed-left, fed-read}
 use Rattle.lent.specs.Lent.{lentBy, pageLentBy}
 
 -- pages given in order to one lent record, with the tables as each call has left them, each call meeting the contract of `page`
@@ -34,6 +35,11 @@ pub lent-record : (ps : List (List ℕ)) (t : List ℕ) (z : PageLeft) → LentP
   tables = tablesFor (whole ps) t;
 }
 lent-record ps t z f = fed-record ps t z (fed f)
+
+-- and of an accepted stream at least as many bytes are left as the last answer says are to be fetched, and none where it says none
+pub lent-left : (ps : List (List ℕ)) (rest t : List ℕ) (z : PageLeft) → LentPages ps (opening t) z → readAnswer (whole ps ++ rest) t .number ≡ 0
+    → (z .answer .fetch ≤ length rest) × (z .answer .fetch ≡ 0 → rest ≡ [])
+lent-left ps rest t z f e = fed-left ps rest t z (fed f) e
 
 -- pages from open, then one call that meets the contract of `close`: answer and tables of one call that meets the contract of `read`
 pub lent-read : (ps : List (List ℕ)) (t : List ℕ) (z : PageLeft) → LentPages ps (opening t) z → (s : Session) (c : ReadAnswer) (v : List ℕ)

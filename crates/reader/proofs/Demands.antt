@@ -1,14 +1,15 @@
 -- Demand 3 of the code: what calls leave that meet the contracts of `page`, `close` and `read`. Rests on the rules' Fetch alone.
-use Prim.Native.Nat.{ℕ}
+use Prim.Native.Nat.{ℕ, _≤_}
 use mathlib.Core.Path.{_≡_, refl, ap, sym, _∙_}
-use mathlib.Core.List.{List, [], _∷_}
+use mathlib.Core.List.{List, [], _∷_, _++_}
+use lib.ListN.{length}
 use Rattle.rules.specs.declared.ReadAnswer.{ReadAnswer}
 use Rattle.rules.specs.Stream.{unpack}
 use Rattle.rules.specs.Reading.{readingOf, answerOf, readAnswer, readTables}
 use Rattle.rules.specs.Session.{Left, close, recordFor, tablesFor}
 use Rattle.rules.specs.Fetch.{fetchOf, PageLeft, pageCall}
 use Rattle.rules.proofs.Sessions.{whole}
-use Rattle.rules.proofs.Fetch.{pages, opening, pages-are, pages-read}
+use Rattle.rules.proofs.Fetch.{pages, opening, pages-are, pages-read, never-past}
 use Rattle.records.specs.declared.Paged.{Paged}
 use Rattle.records.specs.declared.Fetching.{Fetching}
 use Rattle.records.specs.Lefts.{leftBy}
@@ -32,6 +33,11 @@ pub fed-record : (ps : List (List ℕ)) (t : List ℕ) (z : PageLeft) → Fed ps
   tables = tablesFor (whole ps) t;
 }
 fed-record ps t z f = fed-pages f ∙ pages-are ps t
+
+-- and of an accepted stream at least as many bytes are left as the last answer says are to be fetched, and none where it says none
+pub fed-left : (ps : List (List ℕ)) (rest t : List ℕ) (z : PageLeft) → Fed ps (opening t) z → readAnswer (whole ps ++ rest) t .number ≡ 0
+    → (z .answer .fetch ≤ length rest) × (z .answer .fetch ≡ 0 → rest ≡ [])
+fed-left ps rest t z f e = rw (fed-record ps t z f) (never-past (whole ps) rest t e)
 
 -- pages from open, then one call that meets the contract of `close`: answer and tables of one call that meets the contract of `read`
 pub fed-read : (ps : List (List ℕ)) (t : List ℕ) (z : PageLeft) → Fed ps (opening t) z → (c : Paged) (v : List ℕ) → leftBy c v ≡ close (z .session) (z .tables)

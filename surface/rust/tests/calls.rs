@@ -472,8 +472,7 @@ fn fetch_each_stream(lent: &mut Lent) {
 fn fetch_after_each_byte(lent: &mut Lent) {
     lent.begin("bytes to fetch after each byte");
     open_in(lent, 8);
-    let pages: [(&[u8], usize); 6] =
-        [(&[], 2), (&[0x10], 1), (&[], 1), (&[0x03], 1), (&[0x18], 2), (&[0x00], 1)];
+    let pages: [(&[u8], usize); 6] = [(&[], 2), (&[0x10], 1), (&[], 1), (&[0x03], 1), (&[0x18], 2), (&[0x00], 1)];
     for (bytes, fetch) in pages {
         let answer = give_page(lent, bytes);
         lent.must(answer.map(|a| a.fetch) == Ok(fetch), "so many bytes are to be fetched");
