@@ -310,7 +310,7 @@ static void lend_line(struct line *l)
     is_whole(l);
 }
 
-/* = ANSWER / RECORD / TABLES */
+/* = ANSWER / RECORD / TABLES; a page's answer has one number more than that of closing. */
 static void take_outcome(struct line *l, size_t numbers)
 {
     take_word(l, "=");
