@@ -1,5 +1,5 @@
 -- Sessions at the surface: a call on the stored numbers of a session is the call on the session; demand 3 of calls that meet the surface's contracts. Rests on
--- the stored record's Sessions and on the rules' Sessions.
+-- the stored record's Sessions and on the rules' Sessions and Fetch.
 use Prim.Native.Nat.{ℕ, _≤_}
 use mathlib.Core.Path.{_≡_, refl, ap, _∙_}
 use mathlib.Core.List.{List, [], _∷_, _++_, append-nil, append-assoc}

@@ -41,7 +41,7 @@ pub fetches-at : (r : Fetching) (p : Paged) (t : List ℕ) (f : ℕ) → (readBy
 fetches-at r p t f (e, q) h w =
     record { left = ap (λ (y : Paged). leftBy y t) e ∙ h; fetch = q ∙ (w ∙ ap (λ (y : Paged). fetchOf (y .session)) (sym e)) }
 
--- the same by the reading that it leaves
+-- what the session wants that a call leaves, by the reading that it leaves
 pub left-wants : (p : Paged) (t : List ℕ) (x : Reading) (u : List ℕ) → leftBy p t ≡ leaves x u → wants x ≡ fetchOf (p .session)
 unfolding leftBy leaves
 left-wants p t x u l = sym (fetch-store x) ∙ ap (λ (y : Left). fetchOf (y .session)) (sym l)
