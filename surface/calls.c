@@ -829,10 +829,13 @@ static int built_under(struct map m, const uint16_t *numbers)
     return 1;
 }
 
-/* The stream fed to sessions in pages of this size and, if it is short, cut at each place. */
+/* The stream fed to sessions in pages of this size; where that is one byte also as a client asks for it that fetches no
+   more than it is told, and, if the stream is short, cut at each place. */
 static void feed_stream_by(size_t size, size_t length, size_t room)
 {
     feed_pages_of(stream, length, room, size);
+    if (size == 1)
+        fetch_as_told(stream, length, room);
     if (length < 64 && size == 1)
         feed_cut_everywhere(stream, length, room);
 }

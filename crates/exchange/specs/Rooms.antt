@@ -27,12 +27,12 @@ stored l = lent (storedSession (l .session)) (readNumbers (l .answer)) (l .table
 unfoldable pub pageStored : PageLeft → Lent
 pageStored l = lent (storedSession (l .session)) (pageNumbers (l .answer)) (l .tables)
 
--- a record that no Session stands for is 19; it and the tables stay as given
+-- a session's call, or what is left where no Session stands for the record
 unfoldable pub ifStanding : Bool → Lent → Lent → Lent
 ifStanding true unfit l = l
 ifStanding false unfit l = unfit
 
--- a session's call on a stored session, with its answer on 19
+-- a session's call on a stored session; a record that no Session stands for is 19, the answer given here, and it and the tables stay as given
 unfoldable pub called : (Session → Lent) → List ℕ → List ℕ → List ℕ → Lent
 called f unfit r t = ifStanding (standing r) (lent r unfit t) (f (sessionBy r))
 

@@ -450,21 +450,25 @@ fn fetch_is_least(lent: &mut Lent) {
 
 /// A client that always asks for as many bytes as the last answer said; it begins with a page of none. An accepted
 /// stream it reads to its end, and never asks past it.
+fn fetch_as_told(lent: &mut Lent, bytes: &[u8], whole: &Whole) {
+    open_in(lent, whole.tables.len());
+    let (mut at, mut fetch) = (0, give_page(lent, &[]).map_or(0, |a| a.fetch));
+    while fetch > 0 && at + fetch <= bytes.len() {
+        let answer = give_page(lent, &bytes[at..at + fetch]);
+        at += fetch;
+        fetch = answer.map_or(0, |a| a.fetch);
+    }
+    let whole_read = at == bytes.len() && fetch == 0;
+    lent.must(whole.answer.is_err() || whole_read, "an accepted stream is read to its end and not past it");
+    feed_page(lent, &bytes[at..], whole);
+    expect_close_as_whole(lent, whole);
+}
+
 fn fetch_each_stream(lent: &mut Lent) {
     for &(name, bytes, room, ..) in READINGS {
         lent.begin(name);
         let whole = read_whole(lent, bytes, room);
-        open_in(lent, room);
-        let (mut at, mut fetch) = (0, give_page(lent, &[]).map_or(0, |a| a.fetch));
-        while fetch > 0 && at + fetch <= bytes.len() {
-            let answer = give_page(lent, &bytes[at..at + fetch]);
-            at += fetch;
-            fetch = answer.map_or(0, |a| a.fetch);
-        }
-        let whole_read = at == bytes.len() && fetch == 0;
-        lent.must(whole.answer.is_err() || whole_read, "an accepted stream is read to its end and not past it");
-        feed_page(lent, &bytes[at..], &whole);
-        expect_close_as_whole(lent, &whole);
+        fetch_as_told(lent, bytes, &whole);
     }
 }
 
@@ -722,6 +726,9 @@ fn there_and_back(lent: &mut Lent, m: Map, root: usize) -> (Vec<u8>, Vec<u16>) {
     lent.must(built_under(lent, m, &numbers), "every link is the posted one");
     if stream.len() < 64 {
         feed_cut_everywhere(lent, &stream, &whole);
+    }
+    if stream.len() <= 200 {
+        fetch_as_told(lent, &stream, &whole);
     }
     for size in [1, 2, 3, 7, 64, 5000] {
         if stream.len() <= 200 * size {
