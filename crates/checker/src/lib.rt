@@ -5,7 +5,7 @@ ghost use mathlib.Core.Path.{_≡_};
 ghost use Prim.Native.Nat.{_≤_};
 ghost use lib.ListN.{length};
 ghost use Rattle.rules.specs.Lists.{first};
-ghost use Rattle.rules.specs.Map.{Limits};
+ghost use Rattle.rules.specs.Map.{byRank, Limits};
 ghost use Rattle.rules.specs.Check.{checkAnswer, checkWork};
 ghost use Rattle.checker.specs.Parts.{numberless, misfitOf, misbuiltOf};
 
@@ -88,8 +88,8 @@ pub fn misbuilt(tables: &[u16], dim: usize, darts: usize) -> CheckAnswer
 
 // The check of posted tables.
 pub fn check(dim: usize, darts: usize, root: usize, tables: &[u16], work: &mut [u16]) -> CheckAnswer
-    ensures { λ r. ⌜ (r ≡ checkAnswer dim darts root (now (tables .entry)) (now (work .entry)))
-        × (now (work .exit) ≡ checkWork dim darts root (now (tables .entry)) (now (work .entry))) ⌝ }
+    ensures { λ r. ⌜ (r ≡ checkAnswer byRank dim darts root (now (tables .entry)) (now (work .entry)))
+        × (now (work .exit) ≡ checkWork byRank dim darts root (now (tables .entry)) (now (work .entry))) ⌝ }
 {
     let first = misfit(dim, darts, root, tables.len(), work.len());
     if first != 0 {

@@ -18,7 +18,7 @@ use Rattle.rules.specs.declared.State.{State}
 use Rattle.rules.specs.declared.Stand.{Stand}
 use Rattle.rules.specs.declared.State.the-variants.{Header, Running, Complete, Closed, Refused}
 use Rattle.rules.specs.Lists.{allBelow}
-use Rattle.rules.specs.Map.{dimFits, dartsFit, size, place, link, Limits}
+use Rattle.rules.specs.Map.{byRank, dimFits, dartsFit, size, place, link, Limits}
 use Rattle.rules.specs.Walk.{head}
 use Rattle.rules.specs.Stream.{bitsOf}
 use Rattle.rules.specs.Refusals.{among, atHeader, ofIndex, inStep, atEnd, wipes, fitRefused}
@@ -220,11 +220,11 @@ module _ (c p d x : ℕ) where
   entry-blank h = rw (le-ltb d c h)
 
 -- a rank, whose entries stand from x on: the answers for its three parts
-module _ (N n : ℕ) (t : List ℕ) (i : ℕ) (L : Limits N n t) (hi : i ≤ N) (x : ℕ) (ex : x ≡ place N n i 0) where
+module _ (N n : ℕ) (t : List ℕ) (i : ℕ) (L : Limits N n t) (hi : i ≤ N) (x : ℕ) (ex : x ≡ place byRank N n i 0) where
   pub rank-room : x + n ≤ length t
-  rank-room = omega (arith, place-row N n i (n - 1), place-below N n i (n - 1) hi (omega arith))
+  rank-room = omega (arith, place-row N n i (n - 1), place-below byRank N n i (n - 1) hi (omega arith))
 
-  entry-here : (d : ℕ) → d < n → link N n t i d ≡ getD t (x + d) 0
+  entry-here : (d : ℕ) → d < n → link byRank N n t i d ≡ getD t (x + d) 0
   entry-here d h = sym (rw (place-row N n i d, ← ex) at (entry-link N n t i d L hi h))
 
   module _ (c p : ℕ) (hc : c ≤ n) (hp : p ≤ c) where
@@ -237,17 +237,17 @@ module _ (N n : ℕ) (t : List ℕ) (i : ℕ) (L : Limits N n t) (hi : i ≤ N) 
         let z : x + 0 ≡ x = omega arith in
         rw (z, and-yes) at (
         part fits (knownAt t c) 0 p x (omega arith)
-        (λ d h l. entry-known c p d (link N n t i d) hp (omega arith) l ∙ ap (λ (y : ℕ). ltb y c) (entry-here d (omega arith)))
+        (λ d h l. entry-known c p d (link byRank N n t i d) hp (omega arith) l ∙ ap (λ (y : ℕ). ltb y c) (entry-here d (omega arith)))
         )
 
     opens : allBelow c fits ≡ (allWithin (x + p) (x + c) (openAt t c) && allBelow p fits)
     unfolding entryOf openAt
     opens =
-        part fits (openAt t c) p c x hp (λ d h l. entry-open c p d (link N n t i d) h l ∙ ap (λ (y : ℕ). ltb y c || eqb y 65535) (entry-here d (omega arith)))
+        part fits (openAt t c) p c x hp (λ d h l. entry-open c p d (link byRank N n t i d) h l ∙ ap (λ (y : ℕ). ltb y c || eqb y 65535) (entry-here d (omega arith)))
 
     blanks : allBelow n fits ≡ (allWithin (x + c) (x + n) (blankAt t) && allBelow c fits)
     unfolding entryOf blankAt
-    blanks = part fits (blankAt t) c n x hc (λ d h l. entry-blank c p d (link N n t i d) h ∙ ap (λ (y : ℕ). eqb y 65535) (entry-here d (omega arith)))
+    blanks = part fits (blankAt t) c n x hc (λ d h l. entry-blank c p d (link byRank N n t i d) h ∙ ap (λ (y : ℕ). eqb y 65535) (entry-here d (omega arith)))
 
     pub rank-open : (o : Bool) → o ≡ allWithin (x + p) (x + c) (openAt t c) → not o ≡ true → false ≡ allBelow n fits
     rank-open o eo h = rw (blanks, opens, ← eo, not-true o h, and-no)
@@ -429,59 +429,59 @@ all-sized {s} {t} k = rw (
 
 -- what running and complete share: a test that fails, one after another
 module _ (s : Session) (t : List ℕ) where
-  pub walk-low : s .dim < 1 → false ≡ walkFits s t
+  pub walk-low : s .dim < 1 → false ≡ walkFits byRank s t
   unfolding walkFits dimFits
   walk-low h = rw (lt-leb 1 (s .dim) h)
 
-  pub walk-high : 6 < s .dim → false ≡ walkFits s t
+  pub walk-high : 6 < s .dim → false ≡ walkFits byRank s t
   unfolding walkFits dimFits
   walk-high h = rw (lt-leb (s .dim) 6 h, and-no)
 
-  pub walk-none : s .darts < 1 → false ≡ walkFits s t
+  pub walk-none : s .darts < 1 → false ≡ walkFits byRank s t
   unfolding walkFits dartsFit
   walk-none h = rw (lt-leb 1 (s .darts) h, and-no)
 
-  pub walk-many : 4096 < s .darts → false ≡ walkFits s t
+  pub walk-many : 4096 < s .darts → false ≡ walkFits byRank s t
   unfolding walkFits dartsFit
   walk-many h = rw (lt-leb (s .darts) 4096 h, and-no, and-no)
 
-  pub walk-short : length t < (s .dim + 1) * s .darts → false ≡ walkFits s t
+  pub walk-short : length t < (s .dim + 1) * s .darts → false ≡ walkFits byRank s t
   unfolding walkFits
   walk-short h = rw (lt-leb (size (s .dim) (s .darts)) (length t) (omega arith), and-no)
 
-  pub walk-empty : s .count < 1 → false ≡ walkFits s t
+  pub walk-empty : s .count < 1 → false ≡ walkFits byRank s t
   unfolding walkFits
   walk-empty h = rw (lt-leb 1 (s .count) h, and-no)
 
-  pub walk-over : s .darts < s .count → false ≡ walkFits s t
+  pub walk-over : s .darts < s .count → false ≡ walkFits byRank s t
   unfolding walkFits
   walk-over h = rw (lt-leb (s .count) (s .darts) h, and-no)
 
   module _ (f : Bool) (ef : f ≡ allBelow (suc (s .dim)) (fallsAt (s .count) (s .positions))) where
-    pub walk-rising : not f ≡ true → false ≡ walkFits s t
+    pub walk-rising : not f ≡ true → false ≡ walkFits byRank s t
     unfolding walkFits positionsFit fallsAt
     walk-rising h = rw (← ef, not-true f h, and-no)
 
     module _ (p : Bool) (ep : p ≡ allBelow 7 (overAt (s .dim) (s .positions))) where
-      pub walk-past : not p ≡ true → false ≡ walkFits s t
+      pub walk-past : not p ≡ true → false ≡ walkFits byRank s t
       unfolding walkFits positionsFit overAt
       walk-past h = rw (← ep, not-true p h, and-no, and-no)
 
       -- every test but that of the entries passes
       pub walk-entries : Sized s t → not f ≡ false → not p ≡ false
-          → (r : Bool) → r ≡ allBelow (size (s .dim) (s .darts)) (entryAt (s .dim) (s .darts) t (s .count) (s .positions)) → r ≡ walkFits s t
+          → (r : Bool) → r ≡ allBelow (size (s .dim) (s .darts)) (entryAt (s .dim) (s .darts) t (s .count) (s .positions)) → r ≡ walkFits byRank s t
       unfolding walkFits positionsFit entriesFit entryFits fallsAt overAt entryAt entryOf entryBy
       walk-entries k hf hp r e = rw (all-sized k, ← ef, not-false f hf, ← ep, not-false p hp) e
 
   -- what it says of the limits
-  fits-limits : walkFits s t ≡ true → Limits (s .dim) (s .darts) t
+  fits-limits : walkFits byRank s t ≡ true → Limits (s .dim) (s .darts) t
   unfolding walkFits dimFits dartsFit
   fits-limits e =
       let a = dimFits (s .dim) in
       let b = dartsFit (s .darts) in
       let c = leb (size (s .dim) (s .darts)) (length t) in
       let counted = a && b && c && leb 1 (s .count) in
-      let placed = and-left (counted && leb (s .count) (s .darts)) (positionsFit s) (and-left _ (entriesFit s t) e) in
+      let placed = and-left (counted && leb (s .count) (s .darts)) (positionsFit s) (and-left _ (entriesFit byRank s t) e) in
       let all = and-left (a && b && c) (leb 1 (s .count)) (and-left counted (leb (s .count) (s .darts)) placed) in
       let d = and-left a b (and-left (a && b) c all) in
       let n = and-right a b (and-left (a && b) c all) in
@@ -495,12 +495,12 @@ module _ (s : Session) (t : List ℕ) where
       }
 
   -- running and complete, w being what `walk_fits` answered
-  module _ (w : Bool) (e : w ≡ walkFits s t) where
-    pub running-unfit : not w ≡ true → false ≡ fitAs Running s t
+  module _ (w : Bool) (e : w ≡ walkFits byRank s t) where
+    pub running-unfit : not w ≡ true → false ≡ fitAs byRank Running s t
     unfolding fitAs
     running-unfit h = rw (← e, not-true w h)
 
-    pub complete-unfit : not w ≡ true → false ≡ fitAs Complete s t
+    pub complete-unfit : not w ≡ true → false ≡ fitAs byRank Complete s t
     unfolding fitAs
     complete-unfit h = rw (← e, not-true w h)
 
@@ -508,45 +508,45 @@ module _ (s : Session) (t : List ℕ) where
       pub limits-of : Limits (s .dim) (s .darts) t
       limits-of = fits-limits (sym e ∙ not-false w hw)
 
-      pub shape-of : length (s .positions) ≡ 7 → (x : Stand) → x ≡ standOf s → Shape (walkAt (s .dim) (s .darts) x t)
-      shape-of seven x ex = rw ex (fits-inv s t seven (sym e ∙ not-false w hw) .0 .shape)
+      pub shape-of : length (s .positions) ≡ 7 → (x : Stand) → x ≡ standOf s → Shape (walkAt byRank (s .dim) (s .darts) x t)
+      shape-of seven x ex = rw ex (fits-inv byRank s t seven (sym e ∙ not-false w hw) .0 .shape)
 
-      pub complete-fit : (r : Bool) → r ≡ allDone s → r ≡ fitAs Complete s t
+      pub complete-fit : (r : Bool) → r ≡ allDone s → r ≡ fitAs byRank Complete s t
       unfolding fitAs
       complete-fit r q = rw (← e, not-false w hw) q
 
-      module _ (x : Stand) (ex : x ≡ standOf s) (a : Bool) (ea : a ≡ asksAt (walkAt (s .dim) (s .darts) x t)) where
-        asking : asks (walkOf s t) (head (walkOf s t)) ≡ a
+      module _ (x : Stand) (ex : x ≡ standOf s) (a : Bool) (ea : a ≡ asksAt (walkAt byRank (s .dim) (s .darts) x t)) where
+        asking : asks (walkOf byRank s t) (head (walkOf byRank s t)) ≡ a
         asking = sym (rw ex at ea)
 
-        pub running-still : not a ≡ true → false ≡ fitAs Running s t
+        pub running-still : not a ≡ true → false ≡ fitAs byRank Running s t
         unfolding fitAs
         running-still h = rw (← e, not-false w hw, asking, not-true a h)
 
         pub running-begun : not a ≡ false → (r : Bool)
-            → r ≡ (leb (s .waiting) 13 && ltb (s .value) (2 ^ s .waiting) && begins (bitsOf (s .waiting) (s .value))) → r ≡ fitAs Running s t
+            → r ≡ (leb (s .waiting) 13 && ltb (s .value) (2 ^ s .waiting) && begins (bitsOf (s .waiting) (s .value))) → r ≡ fitAs byRank Running s t
         unfolding fitAs valueFits waitingOf
         running-begun h r q = rw (← e, not-false w hw, asking, not-false a h) q
 
   -- the state's own case
-  fit-as : (st : State) → s .state ≡ st → fitAs st s t ≡ fit s t
+  fit-as : (st : State) → s .state ≡ st → fitAs byRank st s t ≡ fit byRank s t
   unfolding fit
-  fit-as st e = ap (λ (x : State). fitAs x s t) (sym e)
+  fit-as st e = ap (λ (x : State). fitAs byRank x s t) (sym e)
 
-  pub fit-header : s .state ≡ Header → (r : Bool) → r ≡ fitHeader s → r ≡ fit s t
+  pub fit-header : s .state ≡ Header → (r : Bool) → r ≡ fitHeader s → r ≡ fit byRank s t
   unfolding fitAs
   fit-header e r q = q ∙ fit-as Header e
 
-  pub fit-running : s .state ≡ Running → (r : Bool) → r ≡ fitAs Running s t → r ≡ fit s t
+  pub fit-running : s .state ≡ Running → (r : Bool) → r ≡ fitAs byRank Running s t → r ≡ fit byRank s t
   fit-running e r q = q ∙ fit-as Running e
 
-  pub fit-complete : s .state ≡ Complete → (r : Bool) → r ≡ fitAs Complete s t → r ≡ fit s t
+  pub fit-complete : s .state ≡ Complete → (r : Bool) → r ≡ fitAs byRank Complete s t → r ≡ fit byRank s t
   fit-complete e r q = q ∙ fit-as Complete e
 
-  pub fit-closed : s .state ≡ Closed → true ≡ fit s t
+  pub fit-closed : s .state ≡ Closed → true ≡ fit byRank s t
   unfolding fitAs
   fit-closed e = fit-as Closed e
 
-  pub fit-refused : (nr p : ℕ) → s .state ≡ Refused nr p → (r : Bool) → r ≡ fitRefused nr p → r ≡ fit s t
+  pub fit-refused : (nr p : ℕ) → s .state ≡ Refused nr p → (r : Bool) → r ≡ fitRefused nr p → r ≡ fit byRank s t
   unfolding fitAs
   fit-refused nr p e r q = q ∙ fit-as (Refused nr p) e

@@ -5,7 +5,7 @@ use mathlib.Core.Bool.{Bool, not, _&&_, _||_, cond}
 use lib.ListN.{getD}
 use lib.Dec.{eqb, ltb, leb}
 use Rattle.rules.specs.Lists.{allBelow}
-use Rattle.rules.specs.Map.{mark, link}
+use Rattle.rules.specs.Map.{byRank, mark, link}
 use Rattle.rules.specs.Walk.{Walk, head}
 use Rattle.rules.specs.Session.{asks}
 use Rattle.rules.specs.Inner.{Emptied}
@@ -28,7 +28,7 @@ entryBy c p d x = cond (ltb d c) ((ltb x c || eqb x mark) && (leb p d || not (eq
 
 -- the entry of dart d at rank i, whose position is p
 unfoldable pub entryOf : ℕ → ℕ → List ℕ → ℕ → ℕ → ℕ → ℕ → Bool
-entryOf N n t c p i d = entryBy c p d (link N n t i d)
+entryOf N n t c p i d = entryBy c p d (link byRank N n t i d)
 
 -- the k-th entry by rank, then dart
 unfoldable pub entryAt : ℕ → ℕ → List ℕ → ℕ → List ℕ → ℕ → Bool

@@ -10,7 +10,7 @@ ghost use Prim.Native.Nat.{ℕ, suc, _+_, _≤_, _^_};
 ghost use lib.ListN.{length, getD};
 ghost use lib.Dec.{eqb, ltb, leb};
 ghost use Rattle.rules.specs.Lists.{allBelow};
-ghost use Rattle.rules.specs.Map.{Limits, size};
+ghost use Rattle.rules.specs.Map.{byRank, Limits, size};
 ghost use Rattle.rules.specs.Stream.{bitsOf};
 ghost use Rattle.rules.specs.Refusals.{fitRefused};
 ghost use Rattle.rules.specs.Session.{walkAt, valueFits, onlyBits, walkFits, allDone, fitAs};
@@ -182,7 +182,7 @@ pub fn entries_fit(
 
 // What running and complete share.
 pub fn walk_fits(s: Session, tables: &[u16]) -> bool
-    ensures { λ r. ⌜ r ≡ walkFits s (now (tables .entry)) ⌝ }
+    ensures { λ r. ⌜ r ≡ walkFits byRank s (now (tables .entry)) ⌝ }
 {
     let dim = s.dim as usize;
     let darts = s.darts as usize;
@@ -236,8 +236,8 @@ pub fn lowest(dim: usize, count: u16, positions: [u16; 7]) -> usize
 
 // A queue isn't empty, and the next step needs a symbol.
 pub fn asks(dim: usize, darts: usize, stand: Stand, tables: &[u16]) -> bool
-    requires { ⌜ Limits dim darts (now tables) × Shape (walkAt dim darts stand (now tables)) ⌝ }
-    ensures { λ r. ⌜ r ≡ asksAt (walkAt dim darts stand (now (tables .entry))) ⌝ }
+    requires { ⌜ Limits dim darts (now tables) × Shape (walkAt byRank dim darts stand (now tables)) ⌝ }
+    ensures { λ r. ⌜ r ≡ asksAt (walkAt byRank dim darts stand (now (tables .entry))) ⌝ }
 {
     let count = stand.count;
     let positions = stand.positions;
@@ -310,7 +310,7 @@ pub fn header_fits(s: Session) -> bool
 
 // Is a running session fit?
 pub fn running_fits(s: Session, tables: &[u16]) -> bool
-    ensures { λ r. ⌜ r ≡ fitAs Running s (now (tables .entry)) ⌝ }
+    ensures { λ r. ⌜ r ≡ fitAs byRank Running s (now (tables .entry)) ⌝ }
 {
     if !walk_fits(s, tables) {
         return false;
@@ -323,7 +323,7 @@ pub fn running_fits(s: Session, tables: &[u16]) -> bool
 
 // Is a complete session fit?
 pub fn complete_fits(s: Session, tables: &[u16]) -> bool
-    ensures { λ r. ⌜ r ≡ fitAs Complete s (now (tables .entry)) ⌝ }
+    ensures { λ r. ⌜ r ≡ fitAs byRank Complete s (now (tables .entry)) ⌝ }
 {
     if !walk_fits(s, tables) {
         return false;
@@ -364,7 +364,7 @@ pub fn refusal_fits(number: u32, place: u32) -> bool
 
 // Is a session fit, with the tables lent?
 pub fn fit(s: Session, tables: &[u16]) -> bool
-    ensures { λ r. ⌜ r ≡ Rattle.rules.specs.Session.fit s (now (tables .entry)) ⌝ }
+    ensures { λ r. ⌜ r ≡ Rattle.rules.specs.Session.fit byRank s (now (tables .entry)) ⌝ }
 {
     let state = s.state;
     match state {

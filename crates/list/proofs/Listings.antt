@@ -5,6 +5,7 @@ use mathlib.Core.Logic.{_≢_}
 use mathlib.Core.List.{List}
 use lib.ListN.{length}
 use borrow.Author.Tests.{eq-eqb, ne-eqb}
+use Rattle.rules.specs.Map.{byRank}
 use Rattle.rules.specs.declared.ReadAnswer.{ReadAnswer}
 use Rattle.rules.specs.declared.ReportAnswer.{ReportAnswer}
 use Rattle.rules.specs.Check.{Verdict, verdict}
@@ -17,19 +18,19 @@ use Rattle.listing.specs.Listing.{refusalLine, mapText, textBy, listing}
 
 module _ (bytes t work : List ℕ) where
   abbrev answer : ReadAnswer
-  answer = readAnswer bytes t
+  answer = readAnswer byRank bytes t
 
   abbrev tables : List ℕ
-  tables = readTables bytes t
+  tables = readTables byRank bytes t
 
   abbrev report : ReportAnswer
-  report = reportAnswer (answer .dim) (answer .darts) tables work
+  report = reportAnswer byRank (answer .dim) (answer .darts) tables work
 
   -- the check passes what a whole read accepts
-  fine : Bytes bytes → answer .number ≡ 0 → 2 * answer .darts ≤ length work → verdict (answer .dim) (answer .darts) 0 tables (length work) ≡ Verdict.fine
+  fine : Bytes bytes → answer .number ≡ 0 → 2 * answer .darts ≤ length work → verdict byRank (answer .dim) (answer .darts) 0 tables (length work) ≡ Verdict.fine
   fine B e h =
-      let a = sound bytes t B e in
-      passes-fine _ _ _ _ _ (record {
+      let a = sound byRank bytes t B e in
+      passes-fine byRank _ _ _ _ _ (record {
         limits = record { dims = a .limits .dims; darts = a .limits .darts; room = a .room };
         work = h;
         valid = a .valid;
@@ -39,8 +40,8 @@ module _ (bytes t work : List ℕ) where
   -- an accepted stream lists its map, with the map's own cells and free pairs and whether it is orientable
   pub lists-map : Bytes bytes → answer .number ≡ 0 → 2 * answer .darts ≤ length work
       → listing answer report tables ≡ mapText (answer .dim) (answer .darts) (answer .steps)
-      (cellCounts (answer .dim) (answer .darts) tables) (freePairs (answer .dim) (answer .darts) tables)
-      (orientable (answer .dim) (answer .darts) tables) tables
+      (cellCounts byRank (answer .dim) (answer .darts) tables) (freePairs byRank (answer .dim) (answer .darts) tables)
+      (orientable byRank (answer .dim) (answer .darts) tables) tables
   unfolding listing textBy reportAnswer reportAnswerOf
   lists-map B e h = rw (fine B e h, eq-eqb (answer .number) 0 e) refl
 

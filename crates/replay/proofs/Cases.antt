@@ -53,19 +53,19 @@ module _ (n : ℕ) (names work : List ℕ) (G : Agrees n names work) where
                 (omega (arith, number-le names d)),
           )
 
-module _ (m : List ℕ) (root : ℕ) (w : Walk) (names work : List ℕ) (v : Inv w) (M : Names m root w names) (A : Valid (w .dim) (w .darts) m)
+module _ (m : List ℕ) (root : ℕ) (w : Walk) (names work : List ℕ) (v : Inv w) (M : Names m root w names) (A : Valid (w .layout) (w .dim) (w .darts) m)
     (G : Agrees (w .darts) names work) where
   position-le : (j : ℕ) → j ≤ w .dim → gone w j ≤ length names
   position-le j hj = omega (arith, gone-le-count w (v .shape) j hj, M .len)
 
-  known-same : (j c : ℕ) → j ≤ w .dim → c < w .count → knownIn (w .dim) (w .darts) m work j (gone w j) (name names c) ≡ leanKnown m w names j c
+  known-same : (j c : ℕ) → j ≤ w .dim → c < w .count → knownIn (w .layout) (w .dim) (w .darts) m work j (gone w j) (name names c) ≡ leanKnown m w names j c
   unfolding knownIn leanKnown
   known-same j c hj hc =
       rw (
         below-same (w .darts) names work G (name names c) (gone w j) (position-le j hj),
         M .back c hc,
         below-same (w .darts) names work G
-            (link (w .dim) (w .darts) m j (name names c)) (gone w j) (position-le j hj),
+            (link (w .layout) (w .dim) (w .darts) m j (name names c)) (gone w j) (position-le j hj),
       )
 
   module _ (j b : ℕ) (h : head w ≡ Head.at j b) where
@@ -77,10 +77,10 @@ module _ (m : List ℕ) (root : ℕ) (w : Walk) (names work : List ℕ) (v : Inv
 
     -- aj and ai of b's dart
     unfoldable pub across : ℕ → ℕ
-    across i = link (w .dim) (w .darts) m i (name names b)
+    across i = link (w .layout) (w .dim) (w .darts) m i (name names b)
 
     seen : ℕ → Bool
-    seen i = knownIn (w .dim) (w .darts) m work j (gone w j) (across i)
+    seen i = knownIn (w .layout) (w .dim) (w .darts) m work j (gone w j) (across i)
 
     -- what the walk of the rules tests across i
     seen-lean : (i : ℕ) → i < j → leanKnown m w names j (number names (across i)) ≡ seen i
@@ -106,35 +106,35 @@ module _ (m : List ℕ) (root : ℕ) (w : Walk) (names work : List ℕ) (v : Inv
 
     -- the step's case, by numbers and positions alone
     partner-by : partner w j b
-        ≡ cond (knownIn (w .dim) (w .darts) m work j b (name names b)) Partner.known
-        (cond (ltb (deducingRank (w .dim) (w .darts) m work j b (name names b)) (j - 1)) (Partner.deduced (number names (across j))) Partner.asked)
+        ≡ cond (knownIn (w .layout) (w .dim) (w .darts) m work j b (name names b)) Partner.known
+        (cond (ltb (deducingRank (w .layout) (w .dim) (w .darts) m work j b (name names b)) (j - 1)) (Partner.deduced (number names (across j))) Partner.asked)
     unfolding leanPartner deducingRank first seen across
     partner-by =
         let e : b ≡ gone w j = turn .next .first in
         let z : j - 1 + 0 ≡ j - 1 = omega arith in
-        let K : knownIn (w .dim) (w .darts) m work j b (name names b) ≡ leanKnown m w names j b =
-        ap (λ (p : ℕ). knownIn (w .dim) (w .darts) m work j p (name names b)) e ∙ known-same j b (turn .next .ranked) below in
-        let D : deducingRank (w .dim) (w .darts) m work j b (name names b) ≡ deducingRank (w .dim) (w .darts) m work j (gone w j) (name names b) =
-        ap (λ (p : ℕ). deducingRank (w .dim) (w .darts) m work j p (name names b)) e in
+        let K : knownIn (w .layout) (w .dim) (w .darts) m work j b (name names b) ≡ leanKnown m w names j b =
+        ap (λ (p : ℕ). knownIn (w .layout) (w .dim) (w .darts) m work j p (name names b)) e ∙ known-same j b (turn .next .ranked) below in
+        let D : deducingRank (w .layout) (w .dim) (w .darts) m work j b (name names b) ≡ deducingRank (w .layout) (w .dim) (w .darts) m work j (gone w j) (name names b) =
+        ap (λ (p : ℕ). deducingRank (w .layout) (w .dim) (w .darts) m work j p (name names b)) e in
         partner-lean m root w names v M A j b turn ∙ rw (K, D, deduce-scan (j - 1) 0 (omega arith), z)
 
     -- what is written, by numbers
     abbrev pub written : Yield
-    written = writesIn (w .dim) (w .darts) m work (w .count) j b
+    written = writesIn (w .layout) (w .dim) (w .darts) m work (w .count) j b
 
     -- whether aj(b) is known, and deduced
     knows : Bool
-    knows = knownIn (w .dim) (w .darts) m work j b (name names b)
+    knows = knownIn (w .layout) (w .dim) (w .darts) m work j b (name names b)
 
     deduces : Bool
-    deduces = ltb (deducingRank (w .dim) (w .darts) m work j b (name names b)) (j - 1)
+    deduces = ltb (deducingRank (w .layout) (w .dim) (w .darts) m work j b (name names b)) (j - 1)
 
     written-by : (k d : Bool) → knows ≡ k → deduces ≡ d
         → written ≡ writesBy k d (eqb (across j) (name names b)) (nameless names (across j)) (numberIn (w .darts) work (across j))
     unfolding writesIn across knows deduces
     written-by k d p q =
         let e : dartIn (w .darts) work b ≡ name names b = G .dart b (omega (arith, below, M .len)) in
-        rw (e, p, q, ← M .len, new-same (w .darts) names work G (link (w .dim) (w .darts) m j (name names b)))
+        rw (e, p, q, ← M .len, new-same (w .darts) names work G (link (w .layout) (w .dim) (w .darts) m j (name names b)))
 
     -- a step of the rules and what is written by numbers are one
     pub steps-written : Stepping m w names written

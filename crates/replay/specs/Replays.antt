@@ -7,7 +7,7 @@ use mathlib.Core.Bool.{Bool, true, false, _||_}
 use lib.ListN.{length}
 use lib.Dec.{eqb, ltb, leb}
 use Rattle.rules.specs.Lists.{first}
-use Rattle.rules.specs.Map.{link, Connected}
+use Rattle.rules.specs.Map.{Layout, byRank, link, Connected}
 use Rattle.rules.specs.Walk as walk
 use Rattle.rules.specs.Check.{numbering}
 use Rattle.rules.specs.Symbols.{toldSymbol}
@@ -18,12 +18,12 @@ use Rattle.replay.specs.declared.Yield.the-variants.{Nothing, One}
 use Rattle.replay.specs.declared.Replayed.{Replayed}
 
 -- aj(d) is known: d's number or its partner's is below position j
-unfoldable pub knownIn : ℕ → ℕ → List ℕ → List ℕ → ℕ → ℕ → ℕ → Bool
-knownIn N n t work j p d = ltb (numberIn n work d) p || ltb (numberIn n work (link N n t j d)) p
+unfoldable pub knownIn : Layout → ℕ → ℕ → List ℕ → List ℕ → ℕ → ℕ → ℕ → Bool
+knownIn Y N n t work j p d = ltb (numberIn n work d) p || ltb (numberIn n work (link Y N n t j d)) p
 
 -- the first rank i <= j-2 across which aj(d) is deduced, or j-1
-unfoldable pub deducingRank : ℕ → ℕ → List ℕ → List ℕ → ℕ → ℕ → ℕ → ℕ
-deducingRank N n t work j p d = first (λ i. knownIn N n t work j p (link N n t i d)) (j - 1)
+unfoldable pub deducingRank : Layout → ℕ → ℕ → List ℕ → List ℕ → ℕ → ℕ → ℕ → ℕ
+deducingRank Y N n t work j p d = first (λ i. knownIn Y N n t work j p (link Y N n t i d)) (j - 1)
 
 -- known, deduced, partner is d itself, partner has no number below the count: the first that holds decides; e is the partner's number
 unfoldable pub writesBy : Bool → Bool → Bool → Bool → ℕ → Yield
@@ -34,12 +34,12 @@ writesBy false false false true e = One New
 writesBy false false false false e = One (Index (record { 0 = e }))
 
 -- what a step writes at the head of Lj, the dart numbered p, when c darts are numbered
-unfoldable pub writesIn : ℕ → ℕ → List ℕ → List ℕ → ℕ → ℕ → ℕ → Yield
-writesIn N n t work c j p =
+unfoldable pub writesIn : Layout → ℕ → ℕ → List ℕ → List ℕ → ℕ → ℕ → ℕ → Yield
+writesIn Y N n t work c j p =
     let d = dartIn n work p in
-    let x = link N n t j d in
+    let x = link Y N n t j d in
     let e = numberIn n work x in
-    writesBy (knownIn N n t work j p d) (ltb (deducingRank N n t work j p d) (j - 1)) (eqb x d) (leb c e) e
+    writesBy (knownIn Y N n t work j p d) (ltb (deducingRank Y N n t work j p d) (j - 1)) (eqb x d) (leb c e) e
 
 -- how many darts are numbered after it
 abbrev pub countAfter : Yield → ℕ → ℕ
@@ -49,8 +49,8 @@ countAfter (One Border) c = c
 countAfter (One (Index e)) c = c
 
 -- what a step comes to
-abbrev pub replayedIn : ℕ → ℕ → List ℕ → List ℕ → ℕ → ℕ → ℕ → Replayed
-replayedIn N n t work c j p = let s = writesIn N n t work c j p in record { written = s; count = countAfter s c }
+abbrev pub replayedIn : Layout → ℕ → ℕ → List ℕ → List ℕ → ℕ → ℕ → ℕ → Replayed
+replayedIn Y N n t work c j p = let s = writesIn Y N n t work c j p in record { written = s; count = countAfter s c }
 
 -- the symbols that it writes, in the rules' words: none or one
 abbrev pub told : Yield → List walk.Symbol
@@ -67,6 +67,6 @@ pub record AtHead (n : ℕ) (work : List ℕ) (c p : ℕ) : Type 0 where
 
 -- the work room holds the whole numbering of a connected map from a root
 pub record NumberedFrom (N n : ℕ) (t : List ℕ) (root : ℕ) (work : List ℕ) : Type 0 where
-  pub connected : Connected N n t root
+  pub connected : Connected byRank N n t root
   pub tail : List ℕ
-  pub room : work ≡ numbering N n root t ++ tail
+  pub room : work ≡ numbering byRank N n root t ++ tail

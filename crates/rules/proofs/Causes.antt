@@ -52,7 +52,7 @@ module _ (w : Walk) (v : Inv w) (j b : ℕ) (h : head w ≡ Head.at j b) (a : pa
     where
       go : Dec (e < w .darts) → e < w .count
       go (yes l) = v .links .near j e (next-of w v h .next .ranked) l k
-      go (no l) = absurd (k (unfold linkOf in link-none (w .dim) (w .darts) (w .links) j e (omega arith)))
+      go (no l) = absurd (k (unfold linkOf in link-none (w .layout) (w .dim) (w .darts) (w .links) j e (omega arith)))
 
   linked-other : linkOf w j e ≢ mark → e ≢ b
   linked-other k q = k (rw q (see-asked w j b a))

@@ -15,6 +15,7 @@ use Rattle.rules.specs.declared.Session.{Session}
 use Rattle.rules.specs.declared.ReadAnswer.{ReadAnswer}
 use Rattle.rules.specs.declared.State.{State}
 use Rattle.rules.specs.declared.State.the-variants.{Header, Running, Complete, Closed, Refused}
+use Rattle.rules.specs.Map.{Layout}
 use Rattle.rules.specs.Stream.{bitsOf, value, unpack, pack, Taken, takeIndex, takeSymbol}
 use Rattle.rules.specs.Walk.{Walk, enough}
 use Rattle.rules.specs.Reading.{stepTaken, stepWith, stepAt, step, onward, run, runAll, Reading, spoiled, settle, readHeader, readingOf, closing}
@@ -118,13 +119,13 @@ module _ (s : Session) where
       record { some = (pack f zs, length-pack f zs, bytes-pack f zs, rw u (finished (s .state))); fewer = λ bytes h. unfinished (s .state) bytes h }
 
 -- of a page's answer: with 0 where the session was unfit
-pub page-least : (s : Session) (bytes t : List ℕ) → 1 ≤ pageCall s bytes t .answer .fetch
-    → Least (pageCall s bytes t .session) (pageCall s bytes t .answer .fetch)
+pub page-least : (Y : Layout) (s : Session) (bytes t : List ℕ) → 1 ≤ pageCall Y s bytes t .answer .fetch
+    → Least (pageCall Y s bytes t .session) (pageCall Y s bytes t .answer .fetch)
 unfolding pageCall fetching
-page-least s bytes t = go (fit s t)
+page-least Y s bytes t = go (fit Y s t)
   where
-    go : (b : Bool) → 1 ≤ cond b (fetchOf (page s bytes t .session)) 0 → Least (page s bytes t .session) (cond b (fetchOf (page s bytes t .session)) 0)
-    go true h = fetch-least (page s bytes t .session)
+    go : (b : Bool) → 1 ≤ cond b (fetchOf (page Y s bytes t .session)) 0 → Least (page Y s bytes t .session) (cond b (fetchOf (page Y s bytes t .session)) 0)
+    go true h = fetch-least (page Y s bytes t .session)
     go false h = absurd (omega arith)
 
 -- the numbers that document 02 names: 2 on a new session, 1 after one header byte; in a symbol 2 with 11 and up to three bits after it, else 1; 0 when
@@ -197,7 +198,7 @@ symbol-wants bs g = go (decLt (length bs) 2)
     go (no l) = omega (arith, to-come bs g .1 (omega arith), begins-13 bs g)
 
 -- a reading that goes on wants something exactly if it is neither refused nor complete
-reading-wants : {r : Reading} → Fits r
+reading-wants : {Y : Layout} {r : Reading} → Fits Y r
     → ((answerOf r .number ≢ 0) ⊎ (store r .state ≡ Complete) → wants r ≡ 0) × (answerOf r .number ≡ 0 → store r .state ≢ Complete → 1 ≤ wants r)
 unfolding wants answerOf plainAnswer goodAnswer store idle held
 reading-wants (Fits.header {bs} h) = (none, λ e c. header-wants bs h)
@@ -214,105 +215,105 @@ reading-wants (Fits.complete v h o c) = (λ e. refl, λ e c. absurd (c refl))
 reading-wants (Fits.refused {nr} {p} h) = (λ e. refl, λ e c. absurd (refused-some nr p h e))
 
 -- an unfit session
-unfit-page : (s : Session) (bytes t : List ℕ) → fit s t ≡ false → page s bytes t ≡ unchanged s t (plainAnswer 19 0)
+unfit-page : (Y : Layout) (s : Session) (bytes t : List ℕ) → fit Y s t ≡ false → page Y s bytes t ≡ unchanged s t (plainAnswer 19 0)
 unfolding page ifFit
-unfit-page s bytes t e = rw e
+unfit-page Y s bytes t e = rw e
 
 -- every page's answer: nothing is to be fetched exactly if it is a refusal, which is so of closed, refused and unfit sessions too, or complete
 pub record Wants (x : PageLeft) : Type 0 where
   pub none : (x .answer .reading .number ≢ 0) ⊎ (x .session .state ≡ Complete) → x .answer .fetch ≡ 0
   pub some : x .answer .reading .number ≡ 0 → x .session .state ≢ Complete → 1 ≤ x .answer .fetch
 
-pub page-wants : (s : Session) (bytes t : List ℕ) → length (s .positions) ≡ 7 → Wants (pageCall s bytes t)
+pub page-wants : (Y : Layout) (s : Session) (bytes t : List ℕ) → length (s .positions) ≡ 7 → Wants (pageCall Y s bytes t)
 unfolding pageCall
-page-wants s bytes t seven = go (fit s t) refl
+page-wants Y s bytes t seven = go (fit Y s t) refl
   where
     -- an answer that repeats a refusal
     repeats : (nr p f : ℕ) → nr ≢ 0 → f ≡ 0 → Wants (fetching (unchanged s t (plainAnswer nr p)) f)
     repeats nr p f n z = unfold fetching unchanged plainAnswer in record { none = λ _. z; some = λ e c. absurd (n e) }
 
-    view : FitSession s t → fit s t ≡ true → Wants (fetching (page s bytes t) (fetchOf (page s bytes t .session)))
+    view : FitSession Y s t → fit Y s t ≡ true → Wants (fetching (page Y s bytes t) (fetchOf (page Y s bytes t .session)))
     view (FitSession.closed q) e =
-        let g : page s bytes t ≡ unchanged s t (plainAnswer 20 0) = unfold pageAs in page-as s bytes t Closed e q in
+        let g : page Y s bytes t ≡ unchanged s t (plainAnswer 20 0) = unfold pageAs in page-as Y s bytes t Closed e q in
         rw g (repeats 20 0 _ (omega arith) (unfold unchanged in fetch-none s (inr (inl q))))
     view (FitSession.refused nr p q h) e =
-        let g : page s bytes t ≡ unchanged s t (plainAnswer nr p) = unfold pageAs in page-as s bytes t (Refused nr p) e q in
+        let g : page Y s bytes t ≡ unchanged s t (plainAnswer nr p) = unfold pageAs in page-as Y s bytes t (Refused nr p) e q in
         rw g (repeats nr p _ (refused-some nr p h) (unfold unchanged in fetch-none s (inr (inr (nr, p, q)))))
     view (FitSession.reading r f o q u) e =
-        let x = feed r (unpack bytes) t in
-        let g : page s bytes t ≡ leaves x t = rw q (rw (← u) at (page-store f bytes t)) in
+        let x = feed Y r (unpack bytes) t in
+        let g : page Y s bytes t ≡ leaves x t = rw q (rw (← u) at (page-store f bytes t)) in
         let (n, m) = reading-wants (feed-fits f (unpack bytes) t (whole-bytes bytes)) in
         rw g (unfold fetching leaves in record { none = λ h. fetch-store x ∙ n h; some = λ h c. rw (fetch-store x) (m h c) })
 
-    go : (b : Bool) → fit s t ≡ b → Wants (fetching (page s bytes t) (cond b (fetchOf (page s bytes t .session)) 0))
-    go true e = view (fit-session s t seven e) e
-    go false e = rw (unfit-page s bytes t e) (repeats 19 0 0 (omega arith) refl)
+    go : (b : Bool) → fit Y s t ≡ b → Wants (fetching (page Y s bytes t) (cond b (fetchOf (page Y s bytes t .session)) 0))
+    go true e = view (fit-session Y s t seven e) e
+    go false e = rw (unfit-page Y s bytes t e) (repeats 19 0 0 (omega arith) refl)
 
 -- Demand 3 with the number.
 
 -- one page is the same bytes in two
-pub two-calls : (s : Session) (xs ys t : List ℕ) → length (s .positions) ≡ 7
-    → pageCall (pageCall s xs t .session) ys (pageCall s xs t .tables) ≡ pageCall s (xs ++ ys) t
+pub two-calls : (Y : Layout) (s : Session) (xs ys t : List ℕ) → length (s .positions) ≡ 7
+    → pageCall Y (pageCall Y s xs t .session) ys (pageCall Y s xs t .tables) ≡ pageCall Y s (xs ++ ys) t
 unfolding pageCall fetching
-two-calls s xs ys t seven = rw (two-pages s xs ys t seven) (go (fit s t) refl)
+two-calls Y s xs ys t seven = rw (two-pages Y s xs ys t seven) (go (fit Y s t) refl)
   where
-    go : (b : Bool) → fit s t ≡ b
-        → fetching (page s (xs ++ ys) t) (cond (fit (page s xs t .session) (page s xs t .tables)) (fetchOf (page s (xs ++ ys) t .session)) 0)
-        ≡ fetching (page s (xs ++ ys) t) (cond b (fetchOf (page s (xs ++ ys) t .session)) 0)
-    go true e = rw (page-fit s xs t seven e)
-    go false e = rw (unfit-page s xs t e, unfit-page s (xs ++ ys) t e) (unfold unchanged in rw e)
+    go : (b : Bool) → fit Y s t ≡ b
+        → fetching (page Y s (xs ++ ys) t) (cond (fit Y (page Y s xs t .session) (page Y s xs t .tables)) (fetchOf (page Y s (xs ++ ys) t .session)) 0)
+        ≡ fetching (page Y s (xs ++ ys) t) (cond b (fetchOf (page Y s (xs ++ ys) t .session)) 0)
+    go true e = rw (page-fit Y s xs t seven e)
+    go false e = rw (unfit-page Y s xs t e, unfit-page Y s (xs ++ ys) t e) (unfold unchanged in rw e)
 
 -- pages one after another, from what a page has left: what the last one leaves
-unfoldable pub pages : PageLeft → List (List ℕ) → PageLeft
-pages x [] = x
-pages x (p ∷ ps) = pages (pageCall (x .session) p (x .tables)) ps
+unfoldable pub pages : (Y : Layout) → PageLeft → List (List ℕ) → PageLeft
+pages Y x [] = x
+pages Y x (p ∷ ps) = pages Y (pageCall Y (x .session) p (x .tables)) ps
 
 -- one page is the same bytes in any number of pages
-pub several-pages : (s : Session) (p : List ℕ) (ps : List (List ℕ)) (t : List ℕ) → length (s .positions) ≡ 7
-    → pages (pageCall s p t) ps ≡ pageCall s (p ++ whole ps) t
+pub several-pages : (Y : Layout) (s : Session) (p : List ℕ) (ps : List (List ℕ)) (t : List ℕ) → length (s .positions) ≡ 7
+    → pages Y (pageCall Y s p t) ps ≡ pageCall Y s (p ++ whole ps) t
 unfolding pages whole
-several-pages s p [] t seven = rw append-nil
-several-pages s p (q ∷ ps) t seven = rw (two-calls s p q t seven, several-pages s (p ++ q) ps t seven, append-assoc)
+several-pages Y s p [] t seven = rw append-nil
+several-pages Y s p (q ∷ ps) t seven = rw (two-calls Y s p q t seven, several-pages Y s (p ++ q) ps t seven, append-assoc)
 
 -- what a page leaves from open, by the bytes so far alone
-abbrev pub sofar : List ℕ → List ℕ → PageLeft
-sofar bytes t = record {
-  session = recordFor bytes t;
-  answer = record { reading = answerOf (readingOf (unpack bytes) t); fetch = fetchOf (recordFor bytes t) };
-  tables = tablesFor bytes t;
+abbrev pub sofar : (Y : Layout) → List ℕ → List ℕ → PageLeft
+sofar Y bytes t = record {
+  session = recordFor Y bytes t;
+  answer = record { reading = answerOf (readingOf Y (unpack bytes) t); fetch = fetchOf (recordFor Y bytes t) };
+  tables = tablesFor Y bytes t;
 }
 
 -- before any page: a new session, which wants both header bytes
 abbrev pub opening : List ℕ → PageLeft
 opening t = record { session = opened; answer = record { reading = plainAnswer 0 0; fetch = 2 }; tables = t }
 
-opening-sofar : (t : List ℕ) → opening t ≡ sofar [] t
+opening-sofar : (Y : Layout) (t : List ℕ) → opening t ≡ sofar Y [] t
 unfolding recordFor tablesFor readingOf readHeader unpack store idle value answerOf tablesOf fetchOf fetchAs wholeBytes
-opening-sofar t = refl
+opening-sofar Y t = refl
 
 -- a page on the record and the tables for the bytes so far
-pub call-reads : (xs ys t : List ℕ) → pageCall (recordFor xs t) ys (tablesFor xs t) ≡ sofar (xs ++ ys) t
+pub call-reads : (Y : Layout) (xs ys t : List ℕ) → pageCall Y (recordFor Y xs t) ys (tablesFor Y xs t) ≡ sofar Y (xs ++ ys) t
 unfolding pageCall fetching
-call-reads xs ys t = rw (record-fit xs t, page-reads xs ys t) (unfold leaves recordFor tablesFor in refl)
+call-reads Y xs ys t = rw (record-fit Y xs t, page-reads Y xs ys t) (unfold leaves recordFor tablesFor in refl)
 
 -- after any pages from open, empty ones too; the pages up to any of them are such pages, so this holds after each
-pub pages-are : (ps : List (List ℕ)) (t : List ℕ) → pages (opening t) ps ≡ sofar (whole ps) t
+pub pages-are : (Y : Layout) (ps : List (List ℕ)) (t : List ℕ) → pages Y (opening t) ps ≡ sofar Y (whole ps) t
 unfolding pages whole
-pages-are [] t = opening-sofar t
-pages-are (p ∷ ps) t =
-    several-pages opened p ps t refl
-    ∙ (ap (λ (x : PageLeft). pageCall (x .session) (p ++ whole ps) (x .tables)) (opening-sofar t) ∙ call-reads [] (p ++ whole ps) t)
+pages-are Y [] t = opening-sofar Y t
+pages-are Y (p ∷ ps) t =
+    several-pages Y opened p ps t refl
+    ∙ (ap (λ (x : PageLeft). pageCall Y (x .session) (p ++ whole ps) (x .tables)) (opening-sofar Y t) ∙ call-reads Y [] (p ++ whole ps) t)
 
 -- pages from open, then closing: answer and tables of one whole read
-pub pages-read : (ps : List (List ℕ)) (t : List ℕ)
-    → (close (pages (opening t) ps .session) (pages (opening t) ps .tables) .answer ≡ readAnswer (whole ps) t)
-    × (close (pages (opening t) ps .session) (pages (opening t) ps .tables) .tables ≡ readTables (whole ps) t)
-pages-read ps t = rw (pages-are ps t) (close-reads (whole ps) t)
+pub pages-read : (Y : Layout) (ps : List (List ℕ)) (t : List ℕ)
+    → (close Y (pages Y (opening t) ps .session) (pages Y (opening t) ps .tables) .answer ≡ readAnswer Y (whole ps) t)
+    × (close Y (pages Y (opening t) ps .session) (pages Y (opening t) ps .tables) .tables ≡ readTables Y (whole ps) t)
+pages-read Y ps t = rw (pages-are Y ps t) (close-reads Y (whole ps) t)
 
 -- A client.
 
 -- a reading that closing accepts is complete
-accepted : {r : Reading} → Fits r → (t : List ℕ) → answerOf (closing r t) .number ≡ 0 → (w : Walk) × (r ≡ Reading.complete w)
+accepted : {Y : Layout} {r : Reading} → Fits Y r → (t : List ℕ) → answerOf (closing r t) .number ≡ 0 → (w : Walk) × (r ≡ Reading.complete w)
 unfolding closing answerOf spoiled plainAnswer
 accepted (Fits.header h) t e = absurd (omega arith)
 accepted (Fits.running v h a) t e = absurd (omega arith)
@@ -346,7 +347,8 @@ waitsOn (Reading.closed w) ys = Reading.closed w
 waitsOn (Reading.refused nr p u) ys = Reading.refused nr p u
 
 -- what finishing is to a page: bytes that do not finish what waits are put to it and no step is done
-pub unfinished-waits : {r : Reading} → Fits r → (bytes t : List ℕ) → finishes (store r) bytes ≡ false → feed r (unpack bytes) t ≡ waitsOn r (unpack bytes)
+pub unfinished-waits : {Y : Layout} {r : Reading} → Fits Y r → (bytes t : List ℕ) → finishes (store r) bytes ≡ false
+    → feed Y r (unpack bytes) t ≡ waitsOn r (unpack bytes)
 unfolding finishes finishesAs feed waitsOn store idle held readingOf readHeader
 unfinished-waits (Fits.header {bs} h) bytes t e =
     let q : leb 16 (length (bs ++ unpack bytes)) ≡ false = rw (waiting-idle Header bs) at e in
@@ -356,22 +358,22 @@ unfinished-waits (Fits.complete v h o c) bytes t e = let z : _≡_ {A = ℕ} 0 1
 unfinished-waits (Fits.refused h) bytes t e = let z : _≡_ {A = ℕ} 0 1 = cc in absurd (omega arith)
 
 -- and bytes that finish it are not
-fits-header : {bs : List Bool} → Fits (Reading.header bs) → length bs ≤ 8
+fits-header : {Y : Layout} {bs : List Bool} → Fits Y (Reading.header bs) → length bs ≤ 8
 fits-header (Fits.header (inl e)) = omega arith
 fits-header (Fits.header (inr e)) = omega arith
 
-fits-running : {w : Walk} {bs : List Bool} → Fits (Reading.running w bs) → begins bs ≡ true
+fits-running : {Y : Layout} {w : Walk} {bs : List Bool} → Fits Y (Reading.running w bs) → begins bs ≡ true
 fits-running (Fits.running v h a) = a .begun
 
-pub finished-goes : {r : Reading} → Fits r → fetchOf (store r) ≢ 0 → (bytes t : List ℕ) → finishes (store r) bytes ≡ true
-    → feed r (unpack bytes) t ≢ waitsOn r (unpack bytes)
+pub finished-goes : {Y : Layout} {r : Reading} → Fits Y r → fetchOf (store r) ≢ 0 → (bytes t : List ℕ) → finishes (store r) bytes ≡ true
+    → feed Y r (unpack bytes) t ≢ waitsOn r (unpack bytes)
 unfolding finishes finishesAs waitsOn store idle held isWhole
-finished-goes (Fits.header {bs} h) some bytes t e q =
-    let f : Fits (Reading.header (bs ++ unpack bytes)) = subst Fits q (feed-fits (Fits.header {bs = bs} h) (unpack bytes) t (whole-bytes bytes)) in
+finished-goes {Y} (Fits.header {bs} h) some bytes t e q =
+    let f : Fits Y (Reading.header (bs ++ unpack bytes)) = subst (Fits Y) q (feed-fits (Fits.header {bs = bs} h) (unpack bytes) t (whole-bytes bytes)) in
     let l = leb-true 16 (length (bs ++ unpack bytes)) (rw (waiting-idle Header bs) at e) in
     omega (arith, fits-header f)
-finished-goes (Fits.running {w} {bs} v h a) some bytes t e q =
-    let f : Fits (Reading.running w (bs ++ unpack bytes)) = subst Fits q (feed-fits (Fits.running {bs = bs} v h a) (unpack bytes) t (whole-bytes bytes)) in
+finished-goes {Y} (Fits.running {w} {bs} v h a) some bytes t e q =
+    let f : Fits Y (Reading.running w (bs ++ unpack bytes)) = subst (Fits Y) q (feed-fits (Fits.running {bs = bs} v h a) (unpack bytes) t (whole-bytes bytes)) in
     let g : isWhole (takeSymbol (bs ++ unpack bytes)) ≡ false = rw (begins-short (bs ++ unpack bytes) (fits-running f)) in
     let k : isWhole (takeSymbol (bs ++ unpack bytes)) ≡ true = rw (waiting-held Running w bs) at e in
     let z : _≡_ {A = ℕ} 0 1 = cc in
@@ -380,7 +382,7 @@ finished-goes (Fits.complete {w} v h o c) some bytes t e q = some (fetch-none _ 
 finished-goes (Fits.refused {nr} {p} h) some bytes t e q = some (fetch-none _ (inr (inr (nr, p, refl))))
 
 -- enough bytes are left where reading them as well comes to complete, and none where nothing waits
-enough-left : {r : Reading} → Fits r → (ys t : List ℕ) (w : Walk) → feed r (unpack ys) t ≡ Reading.complete w
+enough-left : {Y : Layout} {r : Reading} → Fits Y r → (ys t : List ℕ) (w : Walk) → feed Y r (unpack ys) t ≡ Reading.complete w
     → (wants r ≤ length ys) × (wants r ≡ 0 → ys ≡ [])
 unfolding feed wants wholeBytes afterEnd spoiled
 enough-left (Fits.header {bs} h) ys t w e = (bound (leb 16 (length (bs ++ unpack ys))) refl, λ z. absurd (omega (arith, header-wants bs h)))
@@ -406,82 +408,82 @@ enough-left (Fits.complete {w = w1} v h o c) (y ∷ ys) t w e = unfold unpack bi
 enough-left (Fits.refused h) ys t w e = not-refused e
 
 -- of an accepted stream at least as many bytes are left as are to be fetched, wherever it is cut; and where there are none to fetch, none is left
-pub never-past : (xs ys t : List ℕ) → readAnswer (xs ++ ys) t .number ≡ 0 → (fetchOf (recordFor xs t) ≤ length ys) × (fetchOf (recordFor xs t) ≡ 0 → ys ≡ [])
+pub never-past : (Y : Layout) (xs ys t : List ℕ) → readAnswer Y (xs ++ ys) t .number ≡ 0 → (fetchOf (recordFor Y xs t) ≤ length ys) × (fetchOf (recordFor Y xs t) ≡ 0 → ys ≡ [])
 unfolding readAnswer readWhole recordFor
-never-past xs ys t e =
-    let r = readingOf (unpack xs) t in
-    let (w, q) = accepted (reading-fits (xs ++ ys) t) t e in
-    let m : feed r (unpack ys) (tablesOf r t) ≡ Reading.complete w =
-    reading-more (unpack xs) (unpack ys) t (whole-bytes ys) ∙ (ap (λ (bits : List Bool). readingOf bits t) (sym (unpack-append xs ys)) ∙ q) in
-    rw (fetch-store r) (enough-left (reading-fits xs t) ys (tablesOf r t) w m)
+never-past Y xs ys t e =
+    let r = readingOf Y (unpack xs) t in
+    let (w, q) = accepted (reading-fits Y (xs ++ ys) t) t e in
+    let m : feed Y r (unpack ys) (tablesOf r t) ≡ Reading.complete w =
+    reading-more Y (unpack xs) (unpack ys) t (whole-bytes ys) ∙ (ap (λ (bits : List Bool). readingOf Y bits t) (sym (unpack-append xs ys)) ∙ q) in
+    rw (fetch-store r) (enough-left (reading-fits Y xs t) ys (tablesOf r t) w m)
 
 -- a client that asks each time for as many bytes as the answer before said, from what a page has left and the bytes that are left, up to what its last page
 -- leaves: every page has as many bytes as it asked for, and it stops at 0 to fetch, when no byte is left
-pub data Client : PageLeft → List ℕ → PageLeft → Type 0 where
-  stops : {x : PageLeft} → x .answer .fetch ≡ 0 → Client x [] x
-  asks : {x z : PageLeft} (p rest : List ℕ) → 1 ≤ x .answer .fetch → length p ≡ x .answer .fetch → Client (pageCall (x .session) p (x .tables)) rest z
-      → Client x (p ++ rest) z
+pub data Client (Y : Layout) : PageLeft → List ℕ → PageLeft → Type 0 where
+  stops : {x : PageLeft} → x .answer .fetch ≡ 0 → Client Y x [] x
+  asks : {x z : PageLeft} (p rest : List ℕ) → 1 ≤ x .answer .fetch → length p ≡ x .answer .fetch → Client Y (pageCall Y (x .session) p (x .tables)) rest z
+      → Client Y x (p ++ rest) z
 
 -- one page of it, where some bytes are to be fetched
-client-asks : (xs ys t : List ℕ) → 1 ≤ fetchOf (recordFor xs t) → fetchOf (recordFor xs t) ≤ length ys
-    → (let f = fetchOf (recordFor xs t) in Client (sofar (xs ++ take f ys) t) (drop f ys) (sofar ((xs ++ take f ys) ++ drop f ys) t))
-    → Client (sofar xs t) ys (sofar (xs ++ ys) t)
-client-asks xs ys t some l c =
-    let f = fetchOf (recordFor xs t) in
+client-asks : (Y : Layout) (xs ys t : List ℕ) → 1 ≤ fetchOf (recordFor Y xs t) → fetchOf (recordFor Y xs t) ≤ length ys
+    → (let f = fetchOf (recordFor Y xs t) in Client Y (sofar Y (xs ++ take f ys) t) (drop f ys) (sofar Y ((xs ++ take f ys) ++ drop f ys) t))
+    → Client Y (sofar Y xs t) ys (sofar Y (xs ++ ys) t)
+client-asks Y xs ys t some l c =
+    let f = fetchOf (recordFor Y xs t) in
     let j : take f ys ++ drop f ys ≡ ys = take-append-drop f ys in
     let a : (xs ++ take f ys) ++ drop f ys ≡ xs ++ ys = append-assoc xs (take f ys) (drop f ys) ∙ ap (λ (u : List ℕ). xs ++ u) j in
-    let d : Client (sofar (xs ++ take f ys) t) (drop f ys) (sofar (xs ++ ys) t) =
-    subst (λ (u : List ℕ). Client (sofar (xs ++ take f ys) t) (drop f ys) (sofar u t)) a c in
-    let e : Client (pageCall (recordFor xs t) (take f ys) (tablesFor xs t)) (drop f ys) (sofar (xs ++ ys) t) =
-    subst (λ (x : PageLeft). Client x (drop f ys) (sofar (xs ++ ys) t)) (sym (call-reads xs (take f ys) t)) d in
-    subst (λ (u : List ℕ). Client (sofar xs t) u (sofar (xs ++ ys) t)) j (Client.asks (take f ys) (drop f ys) some (length-take-le f ys l) e)
+    let d : Client Y (sofar Y (xs ++ take f ys) t) (drop f ys) (sofar Y (xs ++ ys) t) =
+    subst (λ (u : List ℕ). Client Y (sofar Y (xs ++ take f ys) t) (drop f ys) (sofar Y u t)) a c in
+    let e : Client Y (pageCall Y (recordFor Y xs t) (take f ys) (tablesFor Y xs t)) (drop f ys) (sofar Y (xs ++ ys) t) =
+    subst (λ (x : PageLeft). Client Y x (drop f ys) (sofar Y (xs ++ ys) t)) (sym (call-reads Y xs (take f ys) t)) d in
+    subst (λ (u : List ℕ). Client Y (sofar Y xs t) u (sofar Y (xs ++ ys) t)) j (Client.asks (take f ys) (drop f ys) some (length-take-le f ys l) e)
 
 -- its end
-client-stops : (xs ys t : List ℕ) → fetchOf (recordFor xs t) ≡ 0 → ys ≡ [] → Client (sofar xs t) ys (sofar (xs ++ ys) t)
-client-stops xs ys t z n = rw (n, append-nil) (Client.stops z)
+client-stops : (Y : Layout) (xs ys t : List ℕ) → fetchOf (recordFor Y xs t) ≡ 0 → ys ≡ [] → Client Y (sofar Y xs t) ys (sofar Y (xs ++ ys) t)
+client-stops Y xs ys t z n = rw (n, append-nil) (Client.stops z)
 
 -- with at most as many pages to come as bytes
-client-from : (k : ℕ) (xs ys t : List ℕ) → length ys ≤ k → readAnswer (xs ++ ys) t .number ≡ 0 → Client (sofar xs t) ys (sofar (xs ++ ys) t)
-client-from zero xs ys t h e =
-    let (l, n) = never-past xs ys t e in
-    let z : fetchOf (recordFor xs t) ≡ 0 = omega arith in
-    client-stops xs ys t z (n z)
-client-from (suc k) xs ys t h e =
-    go (ℕ-discrete (fetchOf (recordFor xs t)) 0) (λ l q. client-from k (xs ++ take (fetchOf (recordFor xs t)) ys) (drop (fetchOf (recordFor xs t)) ys) t l q)
+client-from : (Y : Layout) (k : ℕ) (xs ys t : List ℕ) → length ys ≤ k → readAnswer Y (xs ++ ys) t .number ≡ 0 → Client Y (sofar Y xs t) ys (sofar Y (xs ++ ys) t)
+client-from Y zero xs ys t h e =
+    let (l, n) = never-past Y xs ys t e in
+    let z : fetchOf (recordFor Y xs t) ≡ 0 = omega arith in
+    client-stops Y xs ys t z (n z)
+client-from Y (suc k) xs ys t h e =
+    go (ℕ-discrete (fetchOf (recordFor Y xs t)) 0) (λ l q. client-from Y k (xs ++ take (fetchOf (recordFor Y xs t)) ys) (drop (fetchOf (recordFor Y xs t)) ys) t l q)
   where
     f : ℕ
-    f = fetchOf (recordFor xs t)
+    f = fetchOf (recordFor Y xs t)
 
     all : (xs ++ take f ys) ++ drop f ys ≡ xs ++ ys
     all = append-assoc xs (take f ys) (drop f ys) ∙ ap (λ (u : List ℕ). xs ++ u) (take-append-drop f ys)
 
-    go : Dec (fetchOf (recordFor xs t) ≡ 0)
-        → (length (drop (fetchOf (recordFor xs t)) ys) ≤ k
-        → readAnswer ((xs ++ take (fetchOf (recordFor xs t)) ys) ++ drop (fetchOf (recordFor xs t)) ys) t .number ≡ 0
-        → Client (sofar (xs ++ take (fetchOf (recordFor xs t)) ys) t) (drop (fetchOf (recordFor xs t)) ys)
-        (sofar ((xs ++ take (fetchOf (recordFor xs t)) ys) ++ drop (fetchOf (recordFor xs t)) ys) t))
-        → Client (sofar xs t) ys (sofar (xs ++ ys) t)
-    go (yes z) rec = client-stops xs ys t z (never-past xs ys t e .1 z)
+    go : Dec (fetchOf (recordFor Y xs t) ≡ 0)
+        → (length (drop (fetchOf (recordFor Y xs t)) ys) ≤ k
+        → readAnswer Y ((xs ++ take (fetchOf (recordFor Y xs t)) ys) ++ drop (fetchOf (recordFor Y xs t)) ys) t .number ≡ 0
+        → Client Y (sofar Y (xs ++ take (fetchOf (recordFor Y xs t)) ys) t) (drop (fetchOf (recordFor Y xs t)) ys)
+        (sofar Y ((xs ++ take (fetchOf (recordFor Y xs t)) ys) ++ drop (fetchOf (recordFor Y xs t)) ys) t))
+        → Client Y (sofar Y xs t) ys (sofar Y (xs ++ ys) t)
+    go (yes z) rec = client-stops Y xs ys t z (never-past Y xs ys t e .1 z)
     go (no z) rec =
-        let n = length-drop (fetchOf (recordFor xs t)) ys in
-        client-asks xs ys t (omega arith) (never-past xs ys t e .0) (rec (omega arith) (ap (λ (u : List ℕ). readAnswer u t .number) all ∙ e))
+        let n = length-drop (fetchOf (recordFor Y xs t)) ys in
+        client-asks Y xs ys t (omega arith) (never-past Y xs ys t e .0) (rec (omega arith) (ap (λ (u : List ℕ). readAnswer Y u t .number) all ∙ e))
 
 -- from open it reads every accepted stream to its end and never asks past it
-pub client-reads : (bytes t : List ℕ) → readAnswer bytes t .number ≡ 0 → Client (opening t) bytes (sofar bytes t)
-client-reads bytes t e = rw (opening-sofar t) (client-from (length bytes) [] bytes t (omega arith) e)
+pub client-reads : (Y : Layout) (bytes t : List ℕ) → readAnswer Y bytes t .number ≡ 0 → Client Y (opening t) bytes (sofar Y bytes t)
+client-reads Y bytes t e = rw (opening-sofar Y t) (client-from Y (length bytes) [] bytes t (omega arith) e)
 
 -- a page of no bytes tells the number of a new session
-pub opening-page : (t : List ℕ) → pageCall opened [] t ≡ opening t
-opening-page t = ap (λ (x : PageLeft). pageCall (x .session) [] (x .tables)) (opening-sofar t) ∙ (call-reads [] [] t ∙ sym (opening-sofar t))
+pub opening-page : (Y : Layout) (t : List ℕ) → pageCall Y opened [] t ≡ opening t
+opening-page Y t = ap (λ (x : PageLeft). pageCall Y (x .session) [] (x .tables)) (opening-sofar Y t) ∙ (call-reads Y [] [] t ∙ sym (opening-sofar Y t))
 
 -- of the stream of a valid connected map within the limits, with room for its tables
-module _ {bytes t : List ℕ} (S : Streamed bytes t) where
-  streamed-accepted : readAnswer bytes t .number ≡ 0
+module _ {Y : Layout} {bytes t : List ℕ} (S : Streamed Y bytes t) where
+  streamed-accepted : readAnswer Y bytes t .number ≡ 0
   streamed-accepted =
-      rw (← S .has) (ap (λ (a : ReadAnswer). a .number) (complete (S .dim) (S .darts) (S .map) (S .root) t (S .limits) (S .valid) (S .connected) .answer))
+      rw (← S .has) (ap (λ (a : ReadAnswer). a .number) (complete Y (S .dim) (S .darts) (S .map) (S .root) t (S .limits) (S .valid) (S .connected) .answer))
 
-  pub map-left : (xs ys : List ℕ) → xs ++ ys ≡ bytes → fetchOf (recordFor xs t) ≤ length ys
-  map-left xs ys e = never-past xs ys t (rw e streamed-accepted) .0
+  pub map-left : (xs ys : List ℕ) → xs ++ ys ≡ bytes → fetchOf (recordFor Y xs t) ≤ length ys
+  map-left xs ys e = never-past Y xs ys t (rw e streamed-accepted) .0
 
-  pub map-client : Client (opening t) bytes (sofar bytes t)
-  map-client = client-reads bytes t streamed-accepted
+  pub map-client : Client Y (opening t) bytes (sofar Y bytes t)
+  map-client = client-reads Y bytes t streamed-accepted

@@ -11,7 +11,7 @@ use lib.ListN.{length, getD, length-map}
 use lib.Dec.{eqb, leb}
 use borrow.Author.Tests.{eq-eqb, ne-eqb}
 use Rattle.rules.specs.Lists.{number, listOf}
-use Rattle.rules.specs.Map.{mark, size, Valid}
+use Rattle.rules.specs.Map.{Layout, mark, size, link, Valid}
 use Rattle.rules.specs.Walk.{Walk, start, Head, head, Partner, partner, Symbol, enough, Written, symbolOf, named, writeSymbol, writeWith}
 use Rattle.rules.specs.Walk.{writeAt, writeStep}
 use Rattle.rules.specs.Walk.{Walked, prepend, writeOn, write, walked, namesOf, symbolsOf}
@@ -20,7 +20,7 @@ use Rattle.rules.specs.Report.{cells, cellCounts, reportAnswerOf, report
 use Rattle.rules.specs.Check.{Verdict, verdict}
 use Rattle.rules.specs.Inner.{Inv}
 use Rattle.rules.proofs.Orbits.{valid-closed, connected-any}
-use Rattle.rules.proofs.Renamed.{Carries, SameLinks, getD-mapped, valid-to, valid-from, connected-to, connected-from}
+use Rattle.rules.proofs.Renamed.{Carries, carries-then, SameLinks, same-links, same-sym, getD-mapped, valid-to, valid-from, connected-to, connected-from}
 use Rattle.rules.proofs.Cells.{report-map-alone}
 use Rattle.rules.proofs.Check.{Passes, fine-passes, passes-fine}
 use Rattle.rules.proofs.Links.{next-below}
@@ -28,6 +28,8 @@ use Rattle.rules.proofs.Walks.{start-inv, next-of}
 use Rattle.rules.proofs.Moves.{moved}
 use Rattle.rules.proofs.Names.{name, Names, write-move, start-names}
 use Rattle.rules.proofs.Numbering.{name-below}
+use Rattle.rules.proofs.Layouts.{laid, link-laid}
+use Rattle.rules.proofs.Casts.{walk-links}
 
 -- a step's names are renamed; what it writes and where the walk goes are the same
 unfoldable pub renamedStep : (ℕ → ℕ) → Written → Written
@@ -54,8 +56,8 @@ module _ (f : ℕ → ℕ) (n : ℕ) (once : (d e : ℕ) → d < n → e < n →
       rw (eqb-renamed y x (low 0 (omega arith)) hx, number-mapped names x (λ p h. low (suc p) (omega arith)) hx)
 
 -- one step: the same symbols, the same walk, the renamed names
-pub step-renamed : {f : ℕ → ℕ} {m m' : List ℕ} {root : ℕ} (w : Walk) (names : List ℕ) → Inv w → Names m root w names → Valid (w .dim) (w .darts) m
-    → Carries f (w .dim) (w .darts) m m' → writeStep m' w (map f names) ≡ renamedStep f (writeStep m w names)
+pub step-renamed : {f : ℕ → ℕ} {m m' : List ℕ} {root : ℕ} (w : Walk) (names : List ℕ) → Inv w → Names m root w names → Valid (w .layout) (w .dim) (w .darts) m
+    → Carries (w .layout) (w .layout) f (w .dim) (w .darts) m m' → writeStep m' w (map f names) ≡ renamedStep f (writeStep m w names)
 unfolding writeStep
 step-renamed {f} {m} {m'} w names v M A K = go (head w) refl
   where
@@ -84,15 +86,15 @@ step-renamed {f} {m} {m'} w names v M A K = go (head w) refl
         rw (e, K .links j (getD names b mark) (n .ranked) hd) (with' j b (getD names b mark) _ hd hx (partner w j b))
 
 -- and so every walk on its way
-pub write-renamed : {f : ℕ → ℕ} {m m' : List ℕ} {root : ℕ} (k : ℕ) (w : Walk) (names : List ℕ) → Inv w → Names m root w names → Valid (w .dim) (w .darts) m
-    → Carries f (w .dim) (w .darts) m m' → write k m' w (map f names) ≡ renamed f (write k m w names)
+pub write-renamed : {f : ℕ → ℕ} {m m' : List ℕ} {root : ℕ} (k : ℕ) (w : Walk) (names : List ℕ) → Inv w → Names m root w names → Valid (w .layout) (w .dim) (w .darts) m
+    → Carries (w .layout) (w .layout) f (w .dim) (w .darts) m m' → write k m' w (map f names) ≡ renamed f (write k m w names)
 unfolding write
 write-renamed zero w names v M A K = unfold renamed in refl
 write-renamed {f} {m} {m'} {root} (suc k) w names v M A K = rw (step-renamed w names v M A K)
     (go (λ w' names' v' M' A' K'. write-renamed k w' names' v' M' A' K') (head w) refl)
   where
-    go : ((w' : Walk) (names' : List ℕ) → Inv w' → Names m root w' names' → Valid (w' .dim) (w' .darts) m
-        → Carries f (w' .dim) (w' .darts) m m' → write k m' w' (map f names') ≡ renamed f (write k m w' names'))
+    go : ((w' : Walk) (names' : List ℕ) → Inv w' → Names m root w' names' → Valid (w' .layout) (w' .dim) (w' .darts) m
+        → Carries (w' .layout) (w' .layout) f (w' .dim) (w' .darts) m m' → write k m' w' (map f names') ≡ renamed f (write k m w' names'))
         → (h : Head) → head w ≡ h
         → writeOn (λ w' names'. write k m' w' names') (map f names) (renamedStep f (writeStep m w names))
         ≡ renamed f (writeOn (λ w' names'. write k m w' names') names (writeStep m w names))
@@ -100,60 +102,64 @@ write-renamed {f} {m} {m'} {root} (suc k) w names v M A K = rw (step-renamed w n
     go rec (Head.at j b) h =
         let y = write-move m root w names v M A j b h in
         let g = moved w (y .walk) (y .out) v (y .move) in
-        let A' : Valid (y .walk .dim) (y .walk .darts) m = rw (g .grows .dim, g .grows .darts) A in
-        let K' : Carries f (y .walk .dim) (y .walk .darts) m m' = rw (g .grows .dim, g .grows .darts) K in
+        let A' : Valid (y .walk .layout) (y .walk .dim) (y .walk .darts) m = rw (g .grows .layout, g .grows .dim, g .grows .darts) A in
+        let K' : Carries (y .walk .layout) (y .walk .layout) f (y .walk .dim) (y .walk .darts) m m' = rw (g .grows .layout, g .grows .dim, g .grows .darts) K in
         rw (y .eq) (unfold writeOn renamedStep renamed prepend in ap (prepend (y .out)) (rec (y .walk) (y .names') (g .inv) (y .keeps) A' K'))
 
-module _ {f : ℕ → ℕ} {N n : ℕ} {m m' : List ℕ} (K : Carries f N n m m') (h6 : N ≤ 6) (hn : n ≤ 4096) {root : ℕ} (hr : root < n) (A : Valid N n m) where
+module _ {Y Z : Layout} {f : ℕ → ℕ} {N n : ℕ} {m m' : List ℕ} (K : Carries Y Z f N n m m') (h6 : N ≤ 6) (hn : n ≤ 4096) {root : ℕ} (hr : root < n) (A : Valid Y N n m) where
   -- the whole walk: the same symbols, the renamed names
-  pub walk-renamed : walked N n m' (f root) ≡ renamed f (walked N n m root)
-  unfolding walked
-  walk-renamed =
-      write-renamed (enough N n) (start N n []) (root ∷ []) (start-inv N n [] (omega arith) hn h6) (start-names N n [] m root hr)
-      (unfold start in A) (unfold start in K)
+  pub walk-renamed : walked Z N n m' (f root) ≡ renamed f (walked Y N n m root)
+  walk-renamed = walk-links same h6 hn (K .low root hr) (valid-to carried A) ∙ one
+    where
+      -- m' in tables of the layout of m
+      m2 : List ℕ
+      m2 = laid Y N n (link Z N n m')
 
-  pub symbols-renamed : symbolsOf N n m' (f root) ≡ symbolsOf N n m root
+      same : SameLinks Y Z N n m2 m'
+      same = same-links (λ i d hi hd. link-laid Y N n (link Z N n m') i d hi hd)
+
+      carried : Carries Y Y f N n m m2
+      carried = carries-then K (same-sym same)
+
+      one : walked Y N n m2 (f root) ≡ renamed f (walked Y N n m root)
+      one = unfold walked in
+          write-renamed (enough N n) (start Y N n []) (root ∷ []) (start-inv Y N n [] (omega arith) hn h6) (start-names Y N n [] m root hr)
+          (unfold start in A) (unfold start in carried)
+
+  pub symbols-renamed : symbolsOf Z N n m' (f root) ≡ symbolsOf Y N n m root
   unfolding symbolsOf renamed
   symbols-renamed = ap (λ (r : Walked). r .symbols) walk-renamed
 
-  pub names-renamed : namesOf N n m' (f root) ≡ map f (namesOf N n m root)
+  pub names-renamed : namesOf Z N n m' (f root) ≡ map f (namesOf Y N n m root)
   unfolding namesOf renamed
   names-renamed = ap (λ (r : Walked). r .names) walk-renamed
 
   -- the stream does not change
-  pub stream-renamed : stream N n m' (f root) ≡ stream N n m root
+  pub stream-renamed : stream Z N n m' (f root) ≡ stream Y N n m root
   unfolding stream
   stream-renamed = rw symbols-renamed
 
   -- a dart's walk number goes with it
-  pub number-renamed : (d : ℕ) → d < n → number (namesOf N n m' (f root)) (f d) ≡ number (namesOf N n m root) d
-  number-renamed d h = rw names-renamed (number-mapped f n (K .once) (namesOf N n m root) d (λ p l. unfold name in name-below N n m root h6 hn hr A p l) h)
-
--- over equal links it is the same walk
-pub walk-links : {N n : ℕ} {m m' : List ℕ} → SameLinks N n m m' → N ≤ 6 → n ≤ 4096 → {root : ℕ} → root < n → Valid N n m
-    → walked N n m' root ≡ walked N n m root
-walk-links {N} {n} {m} S h6 hn {root} hr A = walk-renamed S h6 hn hr A ∙ unchanged (walked N n m root)
-  where
-    unchanged : (r : Walked) → renamed (λ d. d) r ≡ r
-    unchanged r = unfold renamed in λ i. record { symbols = r .symbols; names = map-id (r .names) i }
+  pub number-renamed : (d : ℕ) → d < n → number (namesOf Z N n m' (f root)) (f d) ≡ number (namesOf Y N n m root) d
+  number-renamed d h = rw names-renamed (number-mapped f n (K .once) (namesOf Y N n m root) d (λ p l. unfold name in name-below Y N n m root h6 hn hr A p l) h)
 
 -- The check accepts the one from a root exactly if it accepts the other from the root's new name.
-module _ {f : ℕ → ℕ} {N n : ℕ} {m m' : List ℕ} (K : Carries f N n m m') (root room : ℕ) where
-  pub fine-to : size N n ≤ length m' → verdict N n root m room ≡ Verdict.fine → verdict N n (f root) m' room ≡ Verdict.fine
+module _ {Y Z : Layout} {f : ℕ → ℕ} {N n : ℕ} {m m' : List ℕ} (K : Carries Y Z f N n m m') (root room : ℕ) where
+  pub fine-to : size N n ≤ length m' → verdict Y N n root m room ≡ Verdict.fine → verdict Z N n (f root) m' room ≡ Verdict.fine
   fine-to h e =
-      let P = fine-passes N n root m room e in
-      passes-fine N n (f root) m' room (record {
+      let P = fine-passes Y N n root m room e in
+      passes-fine Z N n (f root) m' room (record {
         limits = record { dims = P .limits .dims; darts = P .limits .darts; room = h };
         work = P .work;
         valid = valid-to K (P .valid);
         connected = connected-to K (valid-closed (P .valid)) (P .connected);
       })
 
-  pub fine-from : size N n ≤ length m → verdict N n (f root) m' room ≡ Verdict.fine → verdict N n root m room ≡ Verdict.fine
+  pub fine-from : size N n ≤ length m → verdict Z N n (f root) m' room ≡ Verdict.fine → verdict Y N n root m room ≡ Verdict.fine
   fine-from h e =
-      let P = fine-passes N n (f root) m' room e in
+      let P = fine-passes Z N n (f root) m' room e in
       let A = valid-from K (P .valid) in
-      passes-fine N n root m room (record {
+      passes-fine Y N n root m room (record {
         limits = record { dims = P .limits .dims; darts = P .limits .darts; room = h };
         work = P .work;
         valid = A;
@@ -161,46 +167,46 @@ module _ {f : ℕ → ℕ} {N n : ℕ} {m m' : List ℕ} (K : Carries f N n m m'
       })
 
 -- where the check is fine the writer gives the same answer and leaves the same output
-module _ {f : ℕ → ℕ} {N n : ℕ} {m m' : List ℕ} (K : Carries f N n m m') (root start : ℕ) (work out : List ℕ) (h : size N n ≤ length m')
-    (e : verdict N n root m (length work) ≡ Verdict.fine) where
-  stream-same : stream N n m' (f root) ≡ stream N n m root
+module _ {Y Z : Layout} {f : ℕ → ℕ} {N n : ℕ} {m m' : List ℕ} (K : Carries Y Z f N n m m') (root start : ℕ) (work out : List ℕ) (h : size N n ≤ length m')
+    (e : verdict Y N n root m (length work) ≡ Verdict.fine) where
+  stream-same : stream Z N n m' (f root) ≡ stream Y N n m root
   stream-same =
-      let P = fine-passes N n root m (length work) e in
+      let P = fine-passes Y N n root m (length work) e in
       stream-renamed K (P .limits .dims .1) (P .limits .darts .1) (P .connected .rooted) (P .valid)
 
-  page-same : (v : Verdict) → pageAfter N n (f root) start m' (length out) v ≡ pageAfter N n root start m (length out) v
+  page-same : (v : Verdict) → pageAfter Z N n (f root) start m' (length out) v ≡ pageAfter Y N n root start m (length out) v
   unfolding pageAfter
   page-same Verdict.fine = rw stream-same
   page-same (Verdict.refused nr p) = refl
 
-  judged-same : writeVerdict N n (f root) start m' (length work) ≡ writeVerdict N n root start m (length work)
+  judged-same : writeVerdict Z N n (f root) start m' (length work) ≡ writeVerdict Y N n root start m (length work)
   unfolding writeVerdict startVerdict
   judged-same = rw (e, fine-to K root (length work) h e, stream-same)
 
-  pub write-follows : (writeAnswer N n (f root) start m' work out ≡ writeAnswer N n root start m work out)
-      × (writeOut N n (f root) start m' work out ≡ writeOut N n root start m work out)
+  pub write-follows : (writeAnswer Z N n (f root) start m' work out ≡ writeAnswer Y N n root start m work out)
+      × (writeOut Z N n (f root) start m' work out ≡ writeOut Y N n root start m work out)
   unfolding writeAnswer writeOut writePage
   write-follows =
-      let p : writePage N n (f root) start m' work out ≡ writePage N n root start m work out =
-      rw judged-same (page-same (writeVerdict N n root start m (length work))) in
+      let p : writePage Z N n (f root) start m' work out ≡ writePage Y N n root start m work out =
+      rw judged-same (page-same (writeVerdict Y N n root start m (length work))) in
       (rw (p, stream-same, judged-same), rw p)
 
 -- where it is fine from dart 0 the report gives the same answer
-pub report-follows : {f : ℕ → ℕ} {N n : ℕ} {m m' : List ℕ} → Carries f N n m m' → (work : List ℕ) → size N n ≤ length m'
-    → verdict N n 0 m (length work) ≡ Verdict.fine → reportAnswer N n m' work ≡ reportAnswer N n m work
+pub report-follows : {Y Z : Layout} {f : ℕ → ℕ} {N n : ℕ} {m m' : List ℕ} → Carries Y Z f N n m m' → (work : List ℕ) → size N n ≤ length m'
+    → verdict Y N n 0 m (length work) ≡ Verdict.fine → reportAnswer Z N n m' work ≡ reportAnswer Y N n m work
 unfolding reportAnswer reportAnswerOf
-report-follows {f} {N} {n} {m} {m'} K work h e =
+report-follows {Y} {Z} {f} {N} {n} {m} {m'} K work h e =
     let (c, p, o) = report-map-alone K (valid-closed (P .valid)) (P .limits .darts .0) in
     rw (e, same, counts c, p, o)
   where
-    P : Passes N n 0 m (length work)
-    P = fine-passes N n 0 m (length work) e
+    P : Passes Y N n 0 m (length work)
+    P = fine-passes Y N n 0 m (length work) e
 
-    same : verdict N n 0 m' (length work) ≡ Verdict.fine
+    same : verdict Z N n 0 m' (length work) ≡ Verdict.fine
     same =
-        let Q = fine-passes N n (f 0) m' (length work) (fine-to K 0 (length work) h e) in
+        let Q = fine-passes Z N n (f 0) m' (length work) (fine-to K 0 (length work) h e) in
         let c = connected-any (valid-closed (Q .valid)) (Q .connected) 0 (P .connected .rooted) in
-        passes-fine N n 0 m' (length work) (record { limits = Q .limits; work = Q .work; valid = Q .valid; connected = c })
+        passes-fine Z N n 0 m' (length work) (record { limits = Q .limits; work = Q .work; valid = Q .valid; connected = c })
 
-    counts : ((i : ℕ) → cells N n m' i ≡ cells N n m i) → cellCounts N n m' ≡ cellCounts N n m
+    counts : ((i : ℕ) → cells Z N n m' i ≡ cells Y N n m i) → cellCounts Z N n m' ≡ cellCounts Y N n m
     counts c = unfold cellCounts in λ j. listOf 7 (λ i. cond (leb i N) (c i j) 0)

@@ -10,7 +10,7 @@ use lib.Dec.{eqb, leb}
 use Rattle.rules.specs.declared.Session.{Session}
 use Rattle.rules.specs.declared.State.{State}
 use Rattle.rules.specs.declared.State.the-variants.{Header, Running, Complete, Closed, Refused}
-use Rattle.rules.specs.Map.{dimFits, size}
+use Rattle.rules.specs.Map.{Layout, dimFits, size}
 use Rattle.rules.specs.Walk.{Walk, start, enough}
 use Rattle.rules.specs.Refusals.{among, ofIndex, atHeader, inStep, atEnd, wipes}
 use Rattle.rules.specs.Reading.{Run, run, runAll, Reading, spoiled, finish, settle, begun, headerDim, headerDarts, readHeader, readingOf, closing}
@@ -64,9 +64,9 @@ run-finds w bs = go (run k w bs) (ran k w bs)
     go _ (Final.waits {w' = w1} x) = unfold settle Finds answerOf in inl (good-finds w1)
     go _ (Final.refused {w' = w1} nr i x s) = unfold settle in spoiled-finds nr w1 (found-step nr i)
 
-reading-finds : (bits : List Bool) (t : List ℕ) → Finds (readingOf bits t)
+reading-finds : (Y : Layout) (bits : List Bool) (t : List ℕ) → Finds (readingOf Y bits t)
 unfolding readingOf
-reading-finds bits t = go (leb 16 (length bits))
+reading-finds Y bits t = go (leb 16 (length bits))
   where
     N : ℕ
     N = headerDim bits
@@ -74,12 +74,12 @@ reading-finds bits t = go (leb 16 (length bits))
     n : ℕ
     n = headerDarts bits
 
-    body : (a b : Bool) → Finds (begun a b N n (drop 16 bits) t)
+    body : (a b : Bool) → Finds (begun Y a b N n (drop 16 bits) t)
     body false b = unfold begun Finds answerOf plainAnswer found atHeader among in inr refl
     body true false = unfold begun Finds answerOf plainAnswer found atHeader among in inr refl
-    body true true = unfold begun in run-finds (start N n t) (drop 16 bits)
+    body true true = unfold begun in run-finds (start Y N n t) (drop 16 bits)
 
-    go : (b : Bool) → Finds (readHeader b bits t)
+    go : (b : Bool) → Finds (readHeader Y b bits t)
     go false = unfold readHeader Finds answerOf plainAnswer in inl refl
     go true = unfold readHeader in body (dimFits N) (leb (size N n) (length t))
 
@@ -98,9 +98,9 @@ finds-no-12 r (inl z) e = omega arith
 finds-no-12 r (inr i) e = not-both (found 12) (rw e at i) (unfold found atHeader ofIndex inStep atEnd among in refl)
 
 -- a whole read never answers 12
-pub read-no-12 : (bytes t : List ℕ) → readAnswer bytes t .number ≢ 12
+pub read-no-12 : (Y : Layout) (bytes t : List ℕ) → readAnswer Y bytes t .number ≢ 12
 unfolding readAnswer readWhole
-read-no-12 bytes t = finds-no-12 _ (closing-finds (readingOf (unpack bytes) t) t (reading-finds (unpack bytes) t))
+read-no-12 Y bytes t = finds-no-12 _ (closing-finds (readingOf Y (unpack bytes) t) t (reading-finds Y (unpack bytes) t))
 
 -- what a call answers to a session: where a reading now stands, or 19, or 20, or the refusal that the record was lent with
 data Gives (s : Session) (l : Left) : Type 0 where
@@ -124,42 +124,42 @@ after-finds w [] = unfold Finds answerOf in inl (good-finds w)
 after-finds w (y ∷ ys) = spoiled-finds 18 w (unfold found atHeader ofIndex inStep atEnd among in refl)
 
 -- a page, by the state
-page-gives : (s : Session) (ys : List Bool) (t : List ℕ) (st : State) → s .state ≡ st → Gives s (pageAs st s ys t)
+page-gives : (Y : Layout) (s : Session) (ys : List Bool) (t : List ℕ) (st : State) → s .state ≡ st → Gives s (pageAs Y st s ys t)
 unfolding pageAs leaves unchanged goOn
-page-gives s ys t Header q = Gives.reads _ (reading-finds (waitingOf s ++ ys) t) refl
-page-gives s ys t Running q = Gives.reads _ (run-finds (walkOf s t) (waitingOf s ++ ys)) refl
-page-gives s ys t Complete q = Gives.reads _ (after-finds (walkOf s t) ys) refl
-page-gives s ys t Closed q = Gives.plain 20 0 (λ e. omega arith) refl
-page-gives s ys t (Refused nr p) q = Gives.repeats nr p q refl
+page-gives Y s ys t Header q = Gives.reads _ (reading-finds Y (waitingOf s ++ ys) t) refl
+page-gives Y s ys t Running q = Gives.reads _ (run-finds (walkOf Y s t) (waitingOf s ++ ys)) refl
+page-gives Y s ys t Complete q = Gives.reads _ (after-finds (walkOf Y s t) ys) refl
+page-gives Y s ys t Closed q = Gives.plain 20 0 (λ e. omega arith) refl
+page-gives Y s ys t (Refused nr p) q = Gives.repeats nr p q refl
 
 -- closing, by the state
-close-gives : (s : Session) (t : List ℕ) (st : State) → s .state ≡ st → Gives s (closeAs st s t)
+close-gives : (Y : Layout) (s : Session) (t : List ℕ) (st : State) → s .state ≡ st → Gives s (closeAs Y st s t)
 unfolding closeAs leaves unchanged
-close-gives s t Header q = Gives.reads _ (closing-finds (Reading.header (waitingOf s)) t (unfold Finds answerOf plainAnswer in inl refl)) refl
-close-gives s t Running q =
-    Gives.reads _ (closing-finds (Reading.running (walkOf s t) (waitingOf s)) t (unfold Finds answerOf in inl (good-finds (walkOf s t)))) refl
-close-gives s t Complete q = Gives.reads _ (closing-finds (Reading.complete (walkOf s t)) t (unfold Finds answerOf in inl (good-finds (walkOf s t)))) refl
-close-gives s t Closed q = Gives.plain 20 0 (λ e. omega arith) refl
-close-gives s t (Refused nr p) q = Gives.repeats nr p q refl
+close-gives Y s t Header q = Gives.reads _ (closing-finds (Reading.header (waitingOf s)) t (unfold Finds answerOf plainAnswer in inl refl)) refl
+close-gives Y s t Running q =
+    Gives.reads _ (closing-finds (Reading.running (walkOf Y s t) (waitingOf s)) t (unfold Finds answerOf in inl (good-finds (walkOf Y s t)))) refl
+close-gives Y s t Complete q = Gives.reads _ (closing-finds (Reading.complete (walkOf Y s t)) t (unfold Finds answerOf in inl (good-finds (walkOf Y s t)))) refl
+close-gives Y s t Closed q = Gives.plain 20 0 (λ e. omega arith) refl
+close-gives Y s t (Refused nr p) q = Gives.repeats nr p q refl
 
 -- for every session and all tables, fit or not: a page and closing answer 12 only if the record was lent as refused with it
-pub page-12 : (s : Session) (bytes t : List ℕ) → page s bytes t .answer .number ≡ 12 → (p : ℕ) × (s .state ≡ Refused 12 p)
+pub page-12 : (Y : Layout) (s : Session) (bytes t : List ℕ) → page Y s bytes t .answer .number ≡ 12 → (p : ℕ) × (s .state ≡ Refused 12 p)
 unfolding page
-page-12 s bytes t e = gives-12 (fit-gives s t _ (fit s t) (page-gives s (unpack bytes) t (s .state) refl)) e
+page-12 Y s bytes t e = gives-12 (fit-gives s t _ (fit Y s t) (page-gives Y s (unpack bytes) t (s .state) refl)) e
 
-pub close-12 : (s : Session) (t : List ℕ) → close s t .answer .number ≡ 12 → (p : ℕ) × (s .state ≡ Refused 12 p)
+pub close-12 : (Y : Layout) (s : Session) (t : List ℕ) → close Y s t .answer .number ≡ 12 → (p : ℕ) × (s .state ≡ Refused 12 p)
 unfolding close
-close-12 s t e = gives-12 (fit-gives s t _ (fit s t) (close-gives s t (s .state) refl)) e
+close-12 Y s t e = gives-12 (fit-gives s t _ (fit Y s t) (close-gives Y s t (s .state) refl)) e
 
 -- and such a record repeats it: it is fit, with any tables, and nothing changes
-fit-12 : (s : Session) (t : List ℕ) (p : ℕ) → s .state ≡ Refused 12 p → fit s t ≡ true
+fit-12 : (Y : Layout) (s : Session) (t : List ℕ) (p : ℕ) → s .state ≡ Refused 12 p → fit Y s t ≡ true
 unfolding fit fitAs
-fit-12 s t p q = rw q (wipes-fit 12 p (unfold wipes in refl))
+fit-12 Y s t p q = rw q (wipes-fit 12 p (unfold wipes in refl))
 
-pub page-repeats-12 : (s : Session) (bytes t : List ℕ) (p : ℕ) → s .state ≡ Refused 12 p → page s bytes t ≡ unchanged s t (plainAnswer 12 p)
+pub page-repeats-12 : (Y : Layout) (s : Session) (bytes t : List ℕ) (p : ℕ) → s .state ≡ Refused 12 p → page Y s bytes t ≡ unchanged s t (plainAnswer 12 p)
 unfolding pageAs
-page-repeats-12 s bytes t p q = page-as s bytes t (Refused 12 p) (fit-12 s t p q) q
+page-repeats-12 Y s bytes t p q = page-as Y s bytes t (Refused 12 p) (fit-12 Y s t p q) q
 
-pub close-repeats-12 : (s : Session) (t : List ℕ) (p : ℕ) → s .state ≡ Refused 12 p → close s t ≡ unchanged s t (plainAnswer 12 p)
+pub close-repeats-12 : (Y : Layout) (s : Session) (t : List ℕ) (p : ℕ) → s .state ≡ Refused 12 p → close Y s t ≡ unchanged s t (plainAnswer 12 p)
 unfolding closeAs
-close-repeats-12 s t p q = close-as s t (Refused 12 p) (fit-12 s t p q) q
+close-repeats-12 Y s t p q = close-as Y s t (Refused 12 p) (fit-12 Y s t p q) q

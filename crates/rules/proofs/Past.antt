@@ -1,6 +1,7 @@
 -- The tables count by their links alone: on tables that hold the same links every call answers the same and leaves the same links. So "a longer buffer is
 -- allowed, and what is past (N+1)·n is neither read nor written": tables with the same (N+1)·n entries have the same links, and what is past them stays.
--- Rests on Follows for the calls that only read the tables, on Sessions and Tails for the others.
+-- The same holds of tables in another layout, with each link at its own place there. Rests on Follows for the calls that only read the tables, on Sessions and
+-- Casts for the others.
 use Prim.Native.Nat.{ℕ, zero, suc, _+_, _*_, _/_, _%_, _≤_, _<_}
 use mathlib.Core.Path.{_≡_, refl, ap, sym, _∙_}
 use mathlib.Core.Logic.{_⊎_, inl, inr}
@@ -11,41 +12,48 @@ use native.Mathlib.Decide.{decLe}
 use lib.ListN.{length, getD, take, drop, length-append, length-take, take-append-drop}
 use lib.Seq.{take-all, getD-take, length-take-le, take-append-le, drop-append-le}
 use lib.Dec.{eqb, ltb, leb}
-use borrow.Author.Tests.{leb-true, le-ltb, le-leb}
+use borrow.Author.Tests.{not-false, ltb-true, leb-true, le-ltb, le-leb}
 use Rattle.rules.specs.declared.Pair.{Pair}
+use Rattle.rules.specs.declared.CheckAnswer.{CheckAnswer}
+use Rattle.rules.specs.declared.WriteAnswer.{WriteAnswer}
+use Rattle.rules.specs.declared.ReportAnswer.{ReportAnswer}
+use Rattle.rules.specs.declared.PageAnswer.{PageAnswer}
 use Rattle.rules.specs.declared.Session.{Session}
 use Rattle.rules.specs.declared.State.{State}
 use Rattle.rules.specs.declared.State.the-variants.{Header, Running, Complete, Closed, Refused}
 use Rattle.rules.specs.Lists.{listOf, someBelow, first}
-use Rattle.rules.specs.Map.{dimFits, dartsFit, size, link, pairs, pairsFor, pairsOf, pairAt, broken, firstBroken, allRanks, spread, within, reaches}
+use Rattle.rules.specs.Map.{Layout, dimFits, dartsFit, size, link, pairs, pairsFor, pairsOf, pairAt, broken, firstBroken, allRanks, spread, within, reaches}
 use Rattle.rules.specs.Walk.{Walk, start, Head, head, unknown, Partner, partner, pass, tie, steps, Symbol, apply, enough, Walked, namesOf}
 use Rattle.rules.specs.Stream.{value, unpack, Taken, takeSymbol}
 use Rattle.rules.specs.Naming.{naming}
-use Rattle.rules.specs.Check.{Verdict, refuseIf, outside, twisted, unreached, tablesVerdict, verdict, numbering, workAfter, checkAnswerOf}
+use Rattle.rules.specs.Refusals.{among}
+use Rattle.rules.specs.Check.{Verdict, refuseIf, spot, outside, twisted, unreached, tablesVerdict, verdict, numbering, workAfter, checkAnswerOf}
 use Rattle.rules.specs.Check.{checkAnswer, checkWork}
-use Rattle.rules.specs.Writing.{startVerdict, writeVerdict, pageAfter, writeAnswerOf, writePage, writeAnswer, writeOut, writeWork}
+use Rattle.rules.specs.Exchange.{movedPlace, refusalPlace, movedVerdict, movedCheck, movedWrite, movedReport}
+use Rattle.rules.specs.Writing.{stream, startVerdict, writeVerdict, pageAfter, writeAnswerOf, writePage, writeAnswer, writeOut, writeWork}
 use Rattle.rules.specs.Reading.{Run, Step, permitted, fault, allow, stepTaken, stepWith, stepAt, step, onward, run, runAll, Reading, spoiled}
 use Rattle.rules.specs.Reading.{test, manifold, finish, settle, begun, headerDim, headerDarts, readHeader, readingOf, closing, goodAnswer}
 use Rattle.rules.specs.Reading.{answerOf, tablesOf, readWhole, readAnswer, readTables}
-use Rattle.rules.specs.Session.{idle, held, store, walkAt, walkOf, waitingOf, valueFits, entryFits, entriesFit, walkFits, asks, begins, fitAs}
+use Rattle.rules.specs.Session.{idle, held, store, walkAt, walkOf, waitingOf, valueFits, positionsFit, entryFits, entriesFit, walkFits, asks, begins, allDone, fitAs}
 use Rattle.rules.specs.Fetch.{fetching, pageCall}
 use Rattle.rules.specs.Session.{fit, Left, unchanged, leaves, goOn, afterEnd, pageAs, closeAs, ifFit, page, close}
-use Rattle.rules.specs.Report.{reportAnswerOf, reportAnswer, reportWork}
-use Rattle.rules.proofs.Lists.{below-same, some-same, first-same}
-use Rattle.rules.proofs.Places.{nth-some, nth-rank, Alike, blank-past}
+use Rattle.rules.specs.Report.{reportAnswerOf, reportAnswer, reportWorkAfter, reportWork}
+use Rattle.rules.proofs.Lists.{and-left, below-same, some-same, first-same}
+use Rattle.rules.proofs.Places.{nth-some, nth-rank, nth-dart, Alike}
 use Rattle.rules.proofs.Pairs.{nth, nth-fits, prefix-within}
-use Rattle.rules.proofs.Renamed.{SameLinks, same-sym, links-same, alike-same, SameMap, map-alike, alike-map}
+use Rattle.rules.proofs.Renamed.{SameLinks, same-links, links-same, alike-same, SameMap, map-alike, alike-map}
 use Rattle.rules.proofs.Check.{fine-passes}
 use Rattle.rules.proofs.Positions.{Next}
 use Rattle.rules.specs.Inner.{Inv}
 use Rattle.rules.proofs.Walks.{start-inv, next-of}
 use Rattle.rules.proofs.Moves.{moved, step-move}
-use Rattle.rules.proofs.Runs.{moves-inv, Final, ran}
-use Rattle.rules.proofs.Readings.{dim-fits, header-darts}
+use Rattle.rules.proofs.Runs.{moves-inv, moves-grow, Final, ran}
+use Rattle.rules.proofs.Readings.{Settled, Header as Accepted, dim-fits, fits-dim, header-darts, header-inv, Comes, comes}
 use Rattle.rules.proofs.Fitness.{Fits, fits-inv, running-part}
 use Rattle.rules.proofs.Sessions.{headerSize, reachAs, reach, page-past, close-past, read-past, reading-fits}
-use Rattle.rules.proofs.Follows.{walk-links, write-follows, report-follows}
-use Rattle.rules.proofs.Tails.{tailed, link-tailed, partner-tailed, deduced-tailed, apply-tailed}
+use Rattle.rules.proofs.Follows.{write-follows, report-follows}
+use Rattle.rules.proofs.Layouts.{moved-place, moved-same}
+use Rattle.rules.proofs.Casts.{Casts, behind-casts, cast, CastsOf, casts-on, link-cast, partner-cast, deduced-cast, apply-cast, walk-links}
 
 -- tables with the same first k entries are one, or each has k entries or more
 alike-cases : (k : ℕ) (t u : List ℕ) → Alike k t u → (t ≡ u) ⊎ ((k ≤ length t) × (k ≤ length u))
@@ -76,283 +84,381 @@ pairs-within N h6 k h =
 
 -- The calls that only read the tables: they look at the links alone, where the tables hold the map's entries.
 
-module _ {N n : ℕ} {t u : List ℕ} (S : SameMap N n t u) where
-  links : (i d : ℕ) → i ≤ N → link N n t i d ≡ link N n u i d
-  links i d h = links-same (S .links) i d h
+-- a refusal's place, and what comes later
+pub refuse-moved : (Y Z : Layout) (N n : ℕ) (b : Bool) (nr p p' : ℕ) (v v' : Verdict) → (b ≡ true → p' ≡ refusalPlace Y Z N n nr p)
+    → (b ≡ false → v' ≡ movedVerdict Y Z N n v) → refuseIf b nr p' v' ≡ movedVerdict Y Z N n (refuseIf b nr p v)
+unfolding refuseIf movedVerdict
+refuse-moved Y Z N n true nr p p' v v' f e = ap (Verdict.refused nr) (f refl)
+refuse-moved Y Z N n false nr p p' v v' f e = e refl
+
+-- where one is refused and the other by the same number, at the same link's position, the calls leave the same
+module _ (Y Z : Layout) (N n root : ℕ) (t u work : List ℕ) (nr p : ℕ) (e : verdict Y N n root t (length work) ≡ Verdict.refused nr p)
+    (q : verdict Z N n root u (length work) ≡ movedVerdict Y Z N n (Verdict.refused nr p)) where
+  pub refused-check : (checkAnswer Z N n root u work ≡ movedCheck Y Z N n (checkAnswer Y N n root t work)) × (checkWork Z N n root u work ≡ checkWork Y N n root t work)
+  unfolding checkAnswer checkWork checkAnswerOf workAfter movedVerdict movedCheck
+  refused-check = (rw (q, e), rw (q, e))
+
+  pub refused-write : (start : ℕ) (out : List ℕ)
+      → (writeAnswer Z N n root start u work out ≡ movedWrite Y Z N n (writeAnswer Y N n root start t work out))
+      × (writeOut Z N n root start u work out ≡ writeOut Y N n root start t work out)
+  unfolding writeAnswer writeOut writePage writeVerdict startVerdict pageAfter writeAnswerOf movedVerdict movedWrite
+  refused-write start out = (rw (q, e), rw (q, e))
+
+-- the report checks from dart 0
+module _ (Y Z : Layout) (N n : ℕ) (t u work : List ℕ) (nr p : ℕ) (e : verdict Y N n 0 t (length work) ≡ Verdict.refused nr p)
+    (q : verdict Z N n 0 u (length work) ≡ movedVerdict Y Z N n (Verdict.refused nr p)) where
+  pub refused-report : (reportAnswer Z N n u work ≡ movedReport Y Z N n (reportAnswer Y N n t work)) × (reportWork Z N n u work ≡ reportWork Y N n t work)
+  unfolding reportAnswer reportAnswerOf reportWork reportWorkAfter movedVerdict movedReport
+  refused-report = (rw (q, e), rw (q, e))
+
+module _ {Y Z : Layout} {N n : ℕ} {t u : List ℕ} (S : SameMap Y Z N n t u) where
+  links : (i d : ℕ) → i ≤ N → link Z N n u i d ≡ link Y N n t i d
+  links i d h = sym (links-same (S .links) i d h)
 
   -- the links of the k-th link's rank, by rank, then dart
-  nth-links : (k : ℕ) → k < size N n → (d : ℕ) → link N n t (k / n) d ≡ link N n u (k / n) d
+  nth-links : (k : ℕ) → k < size N n → (d : ℕ) → link Z N n u (k / n) d ≡ link Y N n t (k / n) d
   nth-links k h d = links (k / n) d (nth-rank N n k (nth-some N n k h) h)
 
-  -- 6, 7, 8 and 9 are found at the same place
-  outside-links : first (outside N n t) (size N n) ≡ first (outside N n u) (size N n)
+  -- 6, 7, 8 and 9 are found at the same link, pair and dart
+  outside-links : first (outside Z N n u) (size N n) ≡ first (outside Y N n t) (size N n)
   unfolding outside
-  outside-links = first-same (outside N n t) (outside N n u) (size N n) (λ k h. rw (nth-links k h (k % n)))
+  outside-links = first-same (outside Z N n u) (outside Y N n t) (size N n) (λ k h. rw (nth-links k h (k % n)))
 
-  twisted-links : first (twisted N n t) (size N n) ≡ first (twisted N n u) (size N n)
+  twisted-links : first (twisted Z N n u) (size N n) ≡ first (twisted Y N n t) (size N n)
   unfolding twisted
-  twisted-links = first-same (twisted N n t) (twisted N n u) (size N n) (λ k h. rw (nth-links k h (k % n), nth-links k h (link N n u (k / n) (k % n))))
+  twisted-links = first-same (twisted Z N n u) (twisted Y N n t) (size N n) (λ k h. rw (nth-links k h (k % n), nth-links k h (link Y N n t (k / n) (k % n))))
 
-  broken-links : (p : Pair) → (p .low ≤ N) × (p .high ≤ N) → (d : ℕ) → broken N n t p d ≡ broken N n u p d
+  broken-links : (p : Pair) → (p .low ≤ N) × (p .high ≤ N) → (d : ℕ) → broken Z N n u p d ≡ broken Y N n t p d
   unfolding broken
   broken-links p (l, h) d =
-      let x = link N n u (p .low) d in
-      let y = link N n u (p .high) x in
-      let z = link N n u (p .low) y in
+      let x = link Y N n t (p .low) d in
+      let y = link Y N n t (p .high) x in
+      let z = link Y N n t (p .low) y in
       rw (links (p .low) d l, links (p .high) x h, links (p .low) y l, links (p .high) z h)
 
-  firstBroken-links : (ps : List Pair) → ((k : ℕ) → k < length ps → (nth ps k .low ≤ N) × (nth ps k .high ≤ N)) → firstBroken N n t ps ≡ firstBroken N n u ps
+  firstBroken-links : (ps : List Pair) → ((k : ℕ) → k < length ps → (nth ps k .low ≤ N) × (nth ps k .high ≤ N))
+      → firstBroken Z N n u ps ≡ firstBroken Y N n t ps
   unfolding firstBroken nth
   firstBroken-links [] f = refl
   firstBroken-links (p ∷ ps) f =
-      let e = first-same (broken N n t p) (broken N n u p) n (λ d l. broken-links p (f 0 (omega arith)) d) in
+      let e = first-same (broken Z N n u p) (broken Y N n t p) n (λ d l. broken-links p (f 0 (omega arith)) d) in
       let r = firstBroken-links ps (λ k l. f (suc k) (omega arith)) in
       λ j. elim (ltb (e j) n) as (λ _. ℕ) [ true ↦ e j | false ↦ r j ]
 
-  manifold-links : N ≤ 6 → firstBroken N n t (pairsOf N) ≡ firstBroken N n u (pairsOf N)
+  manifold-links : N ≤ 6 → firstBroken Z N n u (pairsOf N) ≡ firstBroken Y N n t (pairsOf N)
   manifold-links h6 = firstBroken-links (pairsOf N) (pairs-within N h6)
 
   -- what is reached is the same
-  spread-links : (keep : ℕ → Bool) (marks : List Bool) → spread keep N n t marks ≡ spread keep N n u marks
+  spread-links : (keep : ℕ → Bool) (marks : List Bool) → spread Z keep N n u marks ≡ spread Y keep N n t marks
   unfolding spread
   spread-links keep marks = ap (listOf n) (λ j d. one d j)
     where
-      near : List ℕ → ℕ → ℕ → Bool
-      near l d i = keep i && getD marks (link N n l i d) false
+      near : Layout → List ℕ → ℕ → ℕ → Bool
+      near X l d i = keep i && getD marks (link X N n l i d) false
 
-      one : (d : ℕ) → (getD marks d false || someBelow (suc N) (near t d)) ≡ (getD marks d false || someBelow (suc N) (near u d))
-      one d = ap (λ (b : Bool). getD marks d false || b) (some-same (suc N) (near t d) (near u d) (λ i h. rw (links i d (omega arith))))
+      one : (d : ℕ) → (getD marks d false || someBelow (suc N) (near Z u d)) ≡ (getD marks d false || someBelow (suc N) (near Y t d))
+      one d = ap (λ (b : Bool). getD marks d false || b) (some-same (suc N) (near Z u d) (near Y t d) (λ i h. rw (links i d (omega arith))))
 
-  within-links : (keep : ℕ → Bool) (d k : ℕ) → within keep N n t d k ≡ within keep N n u d k
+  within-links : (keep : ℕ → Bool) (d k : ℕ) → within Z keep N n u d k ≡ within Y keep N n t d k
   unfolding within
   within-links keep d zero = refl
-  within-links keep d (suc k) = ap (spread keep N n t) (within-links keep d k) ∙ spread-links keep (within keep N n u d k)
+  within-links keep d (suc k) = ap (spread Z keep N n u) (within-links keep d k) ∙ spread-links keep (within Y keep N n t d k)
 
-  unreached-links : (root : ℕ) → first (unreached N n t root) n ≡ first (unreached N n u root) n
+  unreached-links : (root : ℕ) → first (unreached Z N n u root) n ≡ first (unreached Y N n t root) n
   unfolding unreached reaches
-  unreached-links root = first-same (unreached N n t root) (unreached N n u root) n (λ d h. rw (within-links allRanks root n))
+  unreached-links root = first-same (unreached Z N n u root) (unreached Y N n t root) n (λ d h. rw (within-links allRanks root n))
 
-  -- so the verdict is the same, with any numbers
-  tables-links : N ≤ 6 → (root : ℕ) → tablesVerdict N n root t ≡ tablesVerdict N n root u
-  unfolding tablesVerdict
-  tables-links h6 root = rw (outside-links, twisted-links, manifold-links h6, unreached-links root)
+  -- the same link's two positions
+  spot-links : (k : ℕ) → k < size N n → spot Z N n k ≡ movedPlace Y Z N n (spot Y N n k)
+  unfolding spot
+  spot-links k h =
+      let h1 = nth-some N n k h in
+      sym (moved-place Y Z N n (k / n) (k % n) (nth-rank N n k h1 h) (nth-dart n k h1))
 
-  pub verdict-links : (root room : ℕ) → verdict N n root t room ≡ verdict N n root u room
-  unfolding verdict
-  verdict-links root room = go (dimFits N) refl
-    where
-      later : List ℕ → Verdict
-      later l =
-          refuseIf (not (dartsFit n)) 2 0 (
-          refuseIf (ltb (length l) (size N n)) 3 0 (
-          refuseIf (ltb room (2 * n)) 4 0 (
-          refuseIf (not (ltb root n)) 5 0 (
-          tablesVerdict N n root l))))
+  fine-moved : Verdict.fine ≡ movedVerdict Y Z N n Verdict.fine
+  unfolding movedVerdict
+  fine-moved = refl
 
-      go : (b : Bool) → dimFits N ≡ b → refuseIf (not b) 1 0 (later t) ≡ refuseIf (not b) 1 0 (later u)
-      go false q = unfold refuseIf in refl
-      go true q = unfold refuseIf in rw (le-ltb (length t) (size N n) (S .room), le-ltb (length u) (size N n) (S .room'), tables-links (dim-fits N q .1) root)
+  -- so the verdict is the same with any numbers, but for the place of 6 and 7
+  tables-links : N ≤ 6 → (root : ℕ) → tablesVerdict Z N n root u ≡ movedVerdict Y Z N n (tablesVerdict Y N n root t)
+  unfolding tablesVerdict refusalPlace among
+  tables-links h6 root =
+      rw (outside-links, twisted-links, manifold-links h6, unreached-links root)
+      (refuse-moved Y Z N n _ 6 _ _ _ _ (λ q. spot-links _ (ltb-true _ _ q)) (λ _.
+      refuse-moved Y Z N n _ 7 _ _ _ _ (λ q. spot-links _ (ltb-true _ _ q)) (λ _.
+      refuse-moved Y Z N n _ 8 _ _ _ _ (λ q. refl) (λ _.
+      refuse-moved Y Z N n _ 9 _ _ _ _ (λ q. refl) (λ _. fine-moved)))))
+
+  pub verdict-links : (root room : ℕ) → verdict Z N n root u room ≡ movedVerdict Y Z N n (verdict Y N n root t room)
+  unfolding verdict refusalPlace among
+  verdict-links root room =
+      refuse-moved Y Z N n _ 1 0 0 _ _ (λ q. refl) (λ a.
+      refuse-moved Y Z N n _ 2 0 0 _ _ (λ q. refl) (λ _.
+      rw (le-ltb (length t) (size N n) (S .room), le-ltb (length u) (size N n) (S .room'))
+      (refuse-moved Y Z N n false 3 0 0 _ _ (λ q. refl) (λ _.
+      refuse-moved Y Z N n _ 4 0 0 _ _ (λ q. refl) (λ _.
+      refuse-moved Y Z N n _ 5 0 0 _ _ (λ q. refl) (λ _. tables-links (dim-fits N (not-false (dimFits N) a) .1) root))))))
 
   -- where the check is fine the walk gives the same names
-  names-links : (root room : ℕ) → verdict N n root u room ≡ Verdict.fine → namesOf N n t root ≡ namesOf N n u root
+  names-links : (root room : ℕ) → verdict Y N n root t room ≡ Verdict.fine → namesOf Z N n u root ≡ namesOf Y N n t root
   unfolding namesOf
   names-links root room e =
-      let P = fine-passes N n root u room e in
-      ap (λ (r : Walked). r .names) (walk-links (same-sym (S .links)) (P .limits .dims .1) (P .limits .darts .1) (P .connected .rooted) (P .valid))
+      let P = fine-passes Y N n root t room e in
+      ap (λ (r : Walked). r .names) (walk-links (S .links) (P .limits .dims .1) (P .limits .darts .1) (P .connected .rooted) (P .valid))
 
-  -- the check gives the same answer and leaves the same work room
+  -- the check gives the same answer, but for the place of 6 and 7, and leaves the same work room
   pub check-links : (root : ℕ) (work : List ℕ)
-      → (checkAnswer N n root t work ≡ checkAnswer N n root u work) × (checkWork N n root t work ≡ checkWork N n root u work)
-  unfolding checkAnswer checkWork
-  check-links root work = (ap checkAnswerOf same, rw same (go (verdict N n root u (length work)) refl))
+      → (checkAnswer Z N n root u work ≡ movedCheck Y Z N n (checkAnswer Y N n root t work)) × (checkWork Z N n root u work ≡ checkWork Y N n root t work)
+  check-links root work = go (verdict Y N n root t (length work)) refl (verdict-links root (length work))
     where
-      same : verdict N n root t (length work) ≡ verdict N n root u (length work)
-      same = verdict-links root (length work)
+      go : (v : Verdict) → verdict Y N n root t (length work) ≡ v
+          → verdict Z N n root u (length work) ≡ movedVerdict Y Z N n (verdict Y N n root t (length work))
+          → (checkAnswer Z N n root u work ≡ movedCheck Y Z N n (checkAnswer Y N n root t work)) × (checkWork Z N n root u work ≡ checkWork Y N n root t work)
+      go Verdict.fine e q = unfold checkAnswer checkWork checkAnswerOf workAfter movedVerdict movedCheck refusalPlace among numbering in
+          (rw (q, e), rw (q, e, names-links root (length work) e))
+      go (Verdict.refused nr p) e q = refused-check Y Z N n root t u work nr p e (q ∙ ap (movedVerdict Y Z N n) e)
 
-      go : (v : Verdict) → verdict N n root u (length work) ≡ v → workAfter N n root t work v ≡ workAfter N n root u work v
-      go Verdict.fine e = unfold workAfter numbering in rw (names-links root (length work) e)
-      go (Verdict.refused nr p) e = unfold workAfter in refl
-
-  -- the writer gives the same answer and leaves the same work room and output
+  -- the writer gives the same answer, but for the place of 6 and 7, and leaves the same work room and output
   pub write-links : (root start : ℕ) (work out : List ℕ)
-      → (writeAnswer N n root start t work out ≡ writeAnswer N n root start u work out) × (writeWork N n root t work ≡ writeWork N n root u work)
-      × (writeOut N n root start t work out ≡ writeOut N n root start u work out)
+      → (writeAnswer Z N n root start u work out ≡ movedWrite Y Z N n (writeAnswer Y N n root start t work out))
+      × (writeWork Z N n root u work ≡ writeWork Y N n root t work) × (writeOut Z N n root start u work out ≡ writeOut Y N n root start t work out)
   unfolding writeWork
-  write-links root start work out = let (a, o) = go (verdict N n root u (length work)) refl in (a, check-links root work .1, o)
+  write-links root start work out = let (a, o) = go (verdict Y N n root t (length work)) refl in (a, check-links root work .1, o)
     where
-      same : verdict N n root t (length work) ≡ verdict N n root u (length work)
-      same = verdict-links root (length work)
+      q : verdict Z N n root u (length work) ≡ movedVerdict Y Z N n (verdict Y N n root t (length work))
+      q = verdict-links root (length work)
 
-      go : (v : Verdict) → verdict N n root u (length work) ≡ v
-          → (writeAnswer N n root start t work out ≡ writeAnswer N n root start u work out)
-          × (writeOut N n root start t work out ≡ writeOut N n root start u work out)
-      go Verdict.fine e = write-follows (same-sym (S .links)) root start work out (S .room) e
-      go (Verdict.refused nr p) e = unfold writeAnswer writeOut writePage writeVerdict startVerdict pageAfter writeAnswerOf in (rw (same, e), rw (same, e))
+      -- 10 and success have no position for their place
+      late : (b : Bool) (written l : ℕ)
+          → writeAnswerOf written l (refuseIf b 10 l Verdict.fine) ≡ movedWrite Y Z N n (writeAnswerOf written l (refuseIf b 10 l Verdict.fine))
+      late true written l = unfold refuseIf writeAnswerOf movedWrite refusalPlace among in refl
+      late false written l = unfold refuseIf writeAnswerOf movedWrite refusalPlace among in refl
 
-  -- the report gives the same answer and leaves the same work room
-  pub report-links : (work : List ℕ) → (reportAnswer N n t work ≡ reportAnswer N n u work) × (reportWork N n t work ≡ reportWork N n u work)
+      fine : verdict Y N n root t (length work) ≡ Verdict.fine
+          → writeAnswer Y N n root start t work out ≡ movedWrite Y Z N n (writeAnswer Y N n root start t work out)
+      fine e = unfold writeAnswer writeVerdict startVerdict in
+          rw e (late (ltb (length (stream Y N n t root)) start) (length (writePage Y N n root start t work out)) (length (stream Y N n t root)))
+
+      go : (v : Verdict) → verdict Y N n root t (length work) ≡ v
+          → (writeAnswer Z N n root start u work out ≡ movedWrite Y Z N n (writeAnswer Y N n root start t work out))
+          × (writeOut Z N n root start u work out ≡ writeOut Y N n root start t work out)
+      go Verdict.fine e = let (a, o) = write-follows (S .links) root start work out (S .room') e in (a ∙ fine e, o)
+      go (Verdict.refused nr p) e = refused-write Y Z N n root t u work nr p e (q ∙ ap (movedVerdict Y Z N n) e) start out
+
+  -- the report gives the same answer, but for the place of 6 and 7, and leaves the same work room
+  pub report-links : (work : List ℕ)
+      → (reportAnswer Z N n u work ≡ movedReport Y Z N n (reportAnswer Y N n t work)) × (reportWork Z N n u work ≡ reportWork Y N n t work)
   unfolding reportWork
-  report-links work = (go (verdict N n 0 u (length work)) refl, rw same)
+  report-links work = (go (verdict Y N n 0 t (length work)) refl, rw q (left (verdict Y N n 0 t (length work))))
     where
-      same : verdict N n 0 t (length work) ≡ verdict N n 0 u (length work)
-      same = verdict-links 0 (length work)
+      q : verdict Z N n 0 u (length work) ≡ movedVerdict Y Z N n (verdict Y N n 0 t (length work))
+      q = verdict-links 0 (length work)
 
-      go : (v : Verdict) → verdict N n 0 u (length work) ≡ v → reportAnswer N n t work ≡ reportAnswer N n u work
-      go Verdict.fine e = report-follows (same-sym (S .links)) work (S .room) e
-      go (Verdict.refused nr p) e = unfold reportAnswer reportAnswerOf in rw (same, e)
+      left : (v : Verdict) → reportWorkAfter n work (movedVerdict Y Z N n v) ≡ reportWorkAfter n work v
+      left Verdict.fine = unfold movedVerdict in refl
+      left (Verdict.refused nr p) = unfold movedVerdict reportWorkAfter in refl
+
+      go : (v : Verdict) → verdict Y N n 0 t (length work) ≡ v → reportAnswer Z N n u work ≡ movedReport Y Z N n (reportAnswer Y N n t work)
+      go Verdict.fine e = report-follows (S .links) work (S .room') e ∙ (unfold reportAnswer reportAnswerOf movedReport refusalPlace among in rw e)
+      go (Verdict.refused nr p) e = refused-report Y Z N n t u work nr p e (q ∙ ap (movedVerdict Y Z N n) e) .0
+
+-- In one layout no position moves, so the answers are equal.
+module _ (Y : Layout) (N n : ℕ) where
+  same-place : (nr p : ℕ) → refusalPlace Y Y N n nr p ≡ p
+  unfolding refusalPlace
+  same-place nr p = go (among (6 ∷ 7 ∷ []) nr)
+    where
+      go : (b : Bool) → cond b (movedPlace Y Y N n p) p ≡ p
+      go true = moved-same Y N n p
+      go false = refl
+
+  same-check : (a : CheckAnswer) → movedCheck Y Y N n a ≡ a
+  unfolding movedCheck
+  same-check a = λ i. record { number = a .number; place = same-place (a .number) (a .place) i }
+
+  same-write : (a : WriteAnswer) → movedWrite Y Y N n a ≡ a
+  unfolding movedWrite
+  same-write a = λ i. record { number = a .number; place = same-place (a .number) (a .place) i; written = a .written; length = a .length }
+
+  same-report : (a : ReportAnswer) → movedReport Y Y N n a ≡ a
+  unfolding movedReport
+  same-report a = λ i. record {
+    number = a .number;
+    place = same-place (a .number) (a .place) i;
+    cells = a .cells;
+    free = a .free;
+    orientable = a .orientable;
+  }
 
 -- So what is past the entries is no matter: tables alike in the entries are one, or hold equal links.
-alike-links : (N n : ℕ) (X : List ℕ → List ℕ → Type 0) → ((l : List ℕ) → X l l)
-    → ((t u : List ℕ) → SameMap N n t u → X t u) → (t u : List ℕ) → Alike (size N n) t u → X t u
-alike-links N n X one two t u A = go (alike-cases (size N n) t u A)
+alike-links : (Y : Layout) (N n : ℕ) (X : List ℕ → List ℕ → Type 0) → ((l : List ℕ) → X l l)
+    → ((t u : List ℕ) → SameMap Y Y N n t u → X t u) → (t u : List ℕ) → Alike (size N n) t u → X t u
+alike-links Y N n X one two t u A = go (alike-cases (size N n) t u A)
   where
     go : (t ≡ u) ⊎ ((size N n ≤ length t) × (size N n ≤ length u)) → X t u
     go (inl e) = rw e (one u)
     go (inr (h, h')) = two t u (alike-map h h' A)
 
 -- the check
-pub check-alike : (N n root : ℕ) (t u work : List ℕ) → Alike (size N n) t u
-    → (checkAnswer N n root t work ≡ checkAnswer N n root u work) × (checkWork N n root t work ≡ checkWork N n root u work)
-check-alike N n root t u work A =
-    alike-links N n (λ t u. (checkAnswer N n root t work ≡ checkAnswer N n root u work) × (checkWork N n root t work ≡ checkWork N n root u work))
-    (λ l. (refl, refl)) (λ t u S. check-links S root work) t u A
+pub check-alike : (Y : Layout) (N n root : ℕ) (t u work : List ℕ) → Alike (size N n) t u
+    → (checkAnswer Y N n root t work ≡ checkAnswer Y N n root u work) × (checkWork Y N n root t work ≡ checkWork Y N n root u work)
+check-alike Y N n root t u work A =
+    alike-links Y N n (λ t u. (checkAnswer Y N n root t work ≡ checkAnswer Y N n root u work) × (checkWork Y N n root t work ≡ checkWork Y N n root u work))
+    (λ l. (refl, refl)) (λ t u S. let (a, b) = check-links S root work in (sym (a ∙ same-check Y N n _), sym b)) t u A
 
 -- the writer
-pub write-alike : (N n root start : ℕ) (t u work out : List ℕ) → Alike (size N n) t u
-    → (writeAnswer N n root start t work out ≡ writeAnswer N n root start u work out) × (writeWork N n root t work ≡ writeWork N n root u work)
-    × (writeOut N n root start t work out ≡ writeOut N n root start u work out)
-write-alike N n root start t u work out A =
-    alike-links N n (λ t u. (writeAnswer N n root start t work out ≡ writeAnswer N n root start u work out)
-    × (writeWork N n root t work ≡ writeWork N n root u work) × (writeOut N n root start t work out ≡ writeOut N n root start u work out))
-    (λ l. (refl, refl, refl)) (λ t u S. write-links S root start work out) t u A
+pub write-alike : (Y : Layout) (N n root start : ℕ) (t u work out : List ℕ) → Alike (size N n) t u
+    → (writeAnswer Y N n root start t work out ≡ writeAnswer Y N n root start u work out) × (writeWork Y N n root t work ≡ writeWork Y N n root u work)
+    × (writeOut Y N n root start t work out ≡ writeOut Y N n root start u work out)
+write-alike Y N n root start t u work out A =
+    alike-links Y N n (λ t u. (writeAnswer Y N n root start t work out ≡ writeAnswer Y N n root start u work out)
+    × (writeWork Y N n root t work ≡ writeWork Y N n root u work) × (writeOut Y N n root start t work out ≡ writeOut Y N n root start u work out))
+    (λ l. (refl, refl, refl)) (λ t u S. let (a, b, c) = write-links S root start work out in (sym (a ∙ same-write Y N n _), sym b, sym c)) t u A
 
 -- the report
-pub report-alike : (N n : ℕ) (t u work : List ℕ) → Alike (size N n) t u
-    → (reportAnswer N n t work ≡ reportAnswer N n u work) × (reportWork N n t work ≡ reportWork N n u work)
-report-alike N n t u work A =
-    alike-links N n (λ t u. (reportAnswer N n t work ≡ reportAnswer N n u work) × (reportWork N n t work ≡ reportWork N n u work))
-    (λ l. (refl, refl)) (λ t u S. report-links S work) t u A
+pub report-alike : (Y : Layout) (N n : ℕ) (t u work : List ℕ) → Alike (size N n) t u
+    → (reportAnswer Y N n t work ≡ reportAnswer Y N n u work) × (reportWork Y N n t work ≡ reportWork Y N n u work)
+report-alike Y N n t u work A =
+    alike-links Y N n (λ t u. (reportAnswer Y N n t work ≡ reportAnswer Y N n u work) × (reportWork Y N n t work ≡ reportWork Y N n u work))
+    (λ l. (refl, refl)) (λ t u S. let (a, b) = report-links S work in (sym (a ∙ same-report Y N n _), sym b)) t u A
 
--- The reader: its walk carries along what stands behind its tables, so a call on longer tables is the call on the entries alone, with the rest carried along.
+-- The reader: its tables go along with its walk, so a call on tables that are held otherwise is the call on the tables themselves, held so afterwards. What
+-- holds the links so is any f that casts: more entries behind, or places exchanged.
 
--- more entries behind add no link
-past-same : {N n : ℕ} (m x : List ℕ) → size N n ≤ length m → SameMap N n (m ++ x) m
-past-same {N} {n} m x h = alike-map (simp length-append (omega arith)) h (take-append-le (size N n) m x h)
-
--- a run with more entries behind
-unfoldable runTailed : List ℕ → Run → Run
-runTailed x (Run.ended w bs) = Run.ended (tailed w x) bs
-runTailed x (Run.waits w bs) = Run.waits (tailed w x) bs
-runTailed x (Run.refused nr w) = Run.refused nr (tailed w x)
+-- a run, its tables held so
+unfoldable runCast : Layout → (List ℕ → List ℕ) → Run → Run
+runCast Z f (Run.ended w bs) = Run.ended (cast Z f w) bs
+runCast Z f (Run.waits w bs) = Run.waits (cast Z f w) bs
+runCast Z f (Run.refused nr w) = Run.refused nr (cast Z f w)
 
 -- a step
-unfoldable stepTailed : List ℕ → Step → Step
-stepTailed x (Step.goes w bs) = Step.goes (tailed w x) bs
-stepTailed x (Step.stops r) = Step.stops (runTailed x r)
+unfoldable stepCast : Layout → (List ℕ → List ℕ) → Step → Step
+stepCast Z f (Step.goes w bs) = Step.goes (cast Z f w) bs
+stepCast Z f (Step.stops r) = Step.stops (runCast Z f r)
 
 -- a reading
-unfoldable readingTailed : List ℕ → Reading → Reading
-readingTailed x (Reading.header bs) = Reading.header bs
-readingTailed x (Reading.running w bs) = Reading.running (tailed w x) bs
-readingTailed x (Reading.complete w) = Reading.complete (tailed w x)
-readingTailed x (Reading.closed w) = Reading.closed (tailed w x)
-readingTailed x (Reading.refused nr p u) = Reading.refused nr p (u ++ x)
+unfoldable pub readingCast : Layout → (List ℕ → List ℕ) → Reading → Reading
+readingCast Z f (Reading.header bs) = Reading.header bs
+readingCast Z f (Reading.running w bs) = Reading.running (cast Z f w) bs
+readingCast Z f (Reading.complete w) = Reading.complete (cast Z f w)
+readingCast Z f (Reading.closed w) = Reading.closed (cast Z f w)
+readingCast Z f (Reading.refused nr p u) = Reading.refused nr p (f u)
 
 -- what a call leaves
-unfoldable pub leftTailed : List ℕ → Left → Left
-leftTailed x l = record { session = l .session; answer = l .answer; tables = l .tables ++ x }
+unfoldable pub leftCast : (List ℕ → List ℕ) → Left → Left
+leftCast f l = record { session = l .session; answer = l .answer; tables = f (l .tables) }
 
-module _ (w : Walk) (x : List ℕ) (v : Inv w) (bs : List Bool) where
-  allow-tailed : (b : Bool) (nr : ℕ) (w1 y : Walk) (rest : List Bool) → (b ≡ true → y ≡ tailed w1 x)
-      → allow b nr (tailed w x) y rest ≡ stepTailed x (allow b nr w w1 rest)
-  unfolding allow stepTailed runTailed
-  allow-tailed true nr w1 y rest f = ap (λ (z : Walk). Step.goes z rest) (f refl)
-  allow-tailed false nr w1 y rest f = refl
+module _ {Z : Layout} {f : List ℕ → List ℕ} (w : Walk) (C : CastsOf w Z f) (v : Inv w) (bs : List Bool) where
+  allow-cast : (b : Bool) (nr : ℕ) (w1 y : Walk) (rest : List Bool) → (b ≡ true → y ≡ cast Z f w1)
+      → allow b nr (cast Z f w) y rest ≡ stepCast Z f (allow b nr w w1 rest)
+  unfolding allow stepCast runCast
+  allow-cast true nr w1 y rest g = ap (λ (z : Walk). Step.goes z rest) (g refl)
+  allow-cast false nr w1 y rest g = refl
 
-  permitted-tailed : (j b : ℕ) (s : Symbol) → j ≤ w .dim → permitted (tailed w x) j b s ≡ permitted w j b s
+  permitted-cast : (j b : ℕ) (s : Symbol) → j ≤ w .dim → permitted (cast Z f w) j b s ≡ permitted w j b s
   unfolding permitted unknown
-  permitted-tailed j b Symbol.new hj = unfold tailed in refl
-  permitted-tailed j b Symbol.border hj = refl
-  permitted-tailed j b (Symbol.index e) hj = rw (link-tailed w x (v .shape) j e hj) (unfold tailed in refl)
+  permitted-cast j b Symbol.new hj = unfold cast in refl
+  permitted-cast j b Symbol.border hj = refl
+  permitted-cast j b (Symbol.index e) hj = rw (link-cast w C (v .shape) j e hj) (unfold cast in refl)
 
-  fault-tailed : (j b : ℕ) (s : Symbol) → j ≤ w .dim → fault (tailed w x) j b s ≡ fault w j b s
+  fault-cast : (j b : ℕ) (s : Symbol) → j ≤ w .dim → fault (cast Z f w) j b s ≡ fault w j b s
   unfolding fault naming unknown
-  fault-tailed j b Symbol.new hj = refl
-  fault-tailed j b Symbol.border hj = refl
-  fault-tailed j b (Symbol.index e) hj = rw (link-tailed w x (v .shape) j e hj) (unfold tailed in refl)
+  fault-cast j b Symbol.new hj = refl
+  fault-cast j b Symbol.border hj = refl
+  fault-cast j b (Symbol.index e) hj = rw (link-cast w C (v .shape) j e hj) (unfold cast in refl)
 
-  -- a step of the reader is the same with more entries behind
-  step-carried : step (tailed w x) bs ≡ stepTailed x (step w bs)
-  unfolding step tailed
+  -- a step of the reader is the same
+  step-carried : step (cast Z f w) bs ≡ stepCast Z f (step w bs)
+  unfolding step cast
   step-carried = at (head w) refl
     where
-      taken : (j b : ℕ) → Next w j b → (k : Taken) → stepTaken (tailed w x) bs j b k ≡ stepTailed x (stepTaken w bs j b k)
-      taken j b n (Taken.short k) = unfold stepTaken stepTailed runTailed in refl
+      taken : (j b : ℕ) → Next w j b → (k : Taken) → stepTaken (cast Z f w) bs j b k ≡ stepCast Z f (stepTaken w bs j b k)
+      taken j b n (Taken.short k) = unfold stepTaken stepCast runCast in refl
       taken j b n (Taken.symbol s rest) = unfold stepTaken in
-          rw (permitted-tailed j b s (n .ranked), fault-tailed j b s (n .ranked))
-          (allow-tailed (permitted w j b s) (fault w j b s) (apply w j b s) (apply (tailed w x) j b s) rest (λ p. apply-tailed w x v j b s n p))
+          rw (permitted-cast j b s (n .ranked), fault-cast j b s (n .ranked))
+          (allow-cast (permitted w j b s) (fault w j b s) (apply w j b s) (apply (cast Z f w) j b s) rest (λ p. apply-cast w C v j b s n p))
 
-      with' : (j b : ℕ) → head w ≡ Head.at j b → (p : Partner) → partner w j b ≡ p → stepWith (tailed w x) bs j b p ≡ stepTailed x (stepWith w bs j b p)
-      with' j b h Partner.known p = unfold stepWith stepTailed pass in refl
+      with' : (j b : ℕ) → head w ≡ Head.at j b → (p : Partner) → partner w j b ≡ p → stepWith (cast Z f w) bs j b p ≡ stepCast Z f (stepWith w bs j b p)
+      with' j b h Partner.known p = unfold stepWith stepCast pass in refl
       with' j b h (Partner.deduced e) p = unfold stepWith unknown in
-          rw (link-tailed w x (v .shape) j e (next-of w v h .next .ranked))
-          (allow-tailed (unknown w j e) 14 (tie w j b e) (tie (tailed w x) j b e) bs (λ q. deduced-tailed w x v j b e h p))
+          rw (link-cast w C (v .shape) j e (next-of w v h .next .ranked))
+          (allow-cast (unknown w j e) 14 (tie w j b e) (tie (cast Z f w) j b e) bs (λ q. deduced-cast w C v j b e h p))
       with' j b h Partner.asked p = unfold stepWith in taken j b (next-of w v h .next) (takeSymbol bs)
 
-      at : (h : Head) → head w ≡ h → stepAt (tailed w x) bs h ≡ stepTailed x (stepAt w bs h)
-      at Head.none h = unfold stepAt stepTailed runTailed in refl
-      at (Head.at j b) h = unfold stepAt in rw (partner-tailed w x (v .shape) j b (next-of w v h .next .ranked)) (with' j b h (partner w j b) refl)
+      at : (h : Head) → head w ≡ h → stepAt (cast Z f w) bs h ≡ stepCast Z f (stepAt w bs h)
+      at Head.none h = unfold stepAt stepCast runCast in refl
+      at (Head.at j b) h = unfold stepAt in rw (partner-cast w C (v .shape) j b (next-of w v h .next .ranked)) (with' j b h (partner w j b) refl)
 
 -- and so is a run
-run-carried : (k : ℕ) (w : Walk) (x : List ℕ) (bs : List Bool) → Inv w → run k (tailed w x) bs ≡ runTailed x (run k w bs)
+run-carried : {Z : Layout} {f : List ℕ → List ℕ} (k : ℕ) (w : Walk) (bs : List Bool) → CastsOf w Z f → Inv w
+    → run k (cast Z f w) bs ≡ runCast Z f (run k w bs)
 unfolding run
-run-carried zero w x bs v = unfold runTailed in refl
-run-carried (suc k) w x bs v = rw (step-carried w x v bs) (go (λ w' bs' v'. run-carried k w' x bs' v') (step w bs) refl)
+run-carried zero w bs C v = unfold runCast in refl
+run-carried {Z} {f} (suc k) w bs C v = rw (step-carried w C v bs) (go (λ w' bs' C' v'. run-carried k w' bs' C' v') (step w bs) refl)
   where
-    go : ((w' : Walk) (bs' : List Bool) → Inv w' → run k (tailed w' x) bs' ≡ runTailed x (run k w' bs'))
-        → (s : Step) → step w bs ≡ s → onward (λ w' bs'. run k w' bs') (stepTailed x s) ≡ runTailed x (onward (λ w' bs'. run k w' bs') s)
-    go rec (Step.goes w' bs') e = unfold onward stepTailed in let y = step-move w bs w' bs' e in rec w' bs' (moved w w' (y .out) v (y .move) .inv)
-    go rec (Step.stops r) e = unfold onward stepTailed in refl
+    go : ((w' : Walk) (bs' : List Bool) → CastsOf w' Z f → Inv w' → run k (cast Z f w') bs' ≡ runCast Z f (run k w' bs'))
+        → (s : Step) → step w bs ≡ s → onward (λ w' bs'. run k w' bs') (stepCast Z f s) ≡ runCast Z f (onward (λ w' bs'. run k w' bs') s)
+    go rec (Step.goes w' bs') e = unfold onward stepCast in
+        let y = step-move w bs w' bs' e in
+        let m = moved w w' (y .out) v (y .move) in
+        rec w' bs' (casts-on (m .grows) C) (m .inv)
+    go rec (Step.stops r) e = unfold onward stepCast in refl
 
-module _ (w : Walk) (x : List ℕ) (h : size (w .dim) (w .darts) ≤ length (w .links)) where
-  -- a refusal leaves what stands behind
-  spoiled-tailed : (nr : ℕ) → spoiled nr (tailed w x) ≡ readingTailed x (spoiled nr w)
-  unfolding spoiled readingTailed tailed steps
-  spoiled-tailed nr = rw (blank-past (size (w .dim) (w .darts)) (w .links) x h)
+-- tables held so are the same map
+cast-same : {Y Z : Layout} {N n : ℕ} {f : List ℕ → List ℕ} → Casts Y Z N n f → (t : List ℕ) → size N n ≤ length t → SameMap Y Z N n t (f t)
+cast-same C t h = record { links = same-links (λ i d hi hd. sym (C .links t h i d hi)); room = h; room' = C .room t h }
 
-  test-tailed : (b : Bool) (nr : ℕ) (r r' : Reading) → r' ≡ readingTailed x r → test b nr (tailed w x) r' ≡ readingTailed x (test b nr w r)
+module _ {Z : Layout} {f : List ℕ → List ℕ} (w : Walk) (C : CastsOf w Z f) (h : size (w .dim) (w .darts) ≤ length (w .links)) where
+  -- a refusal blanks them so
+  spoiled-cast : (nr : ℕ) → spoiled nr (cast Z f w) ≡ readingCast Z f (spoiled nr w)
+  unfolding spoiled readingCast cast steps
+  spoiled-cast nr = rw (C .blanks (w .links) h)
+
+  test-cast : (b : Bool) (nr : ℕ) (r r' : Reading) → r' ≡ readingCast Z f r → test b nr (cast Z f w) r' ≡ readingCast Z f (test b nr w r)
   unfolding test
-  test-tailed true nr r r' e = e
-  test-tailed false nr r r' e = spoiled-tailed nr
+  test-cast true nr r r' e = e
+  test-cast false nr r r' e = spoiled-cast nr
 
   -- the tests at the walk's end are the same
-  finish-tailed : w .dim ≤ 6 → (rest : List Bool) → finish (tailed w x) rest ≡ readingTailed x (finish w rest)
-  unfolding finish manifold readingTailed tailed
-  finish-tailed h6 rest =
-      rw (manifold-links {N = w .dim} {n = w .darts} {t = w .links ++ x} {u = w .links} (past-same (w .links) x h) h6)
-      (test-tailed (eqb (w .count) (w .darts)) 15 _ _
-      (test-tailed (manifold w) 16 _ _
-      (test-tailed (eqb (value (take (length rest % 8) rest)) 0) 17 _ _
-      (test-tailed (eqb (length rest / 8) 0) 18 (Reading.complete w) (Reading.complete (tailed w x)) refl))))
+  finish-cast : w .dim ≤ 6 → (rest : List Bool) → finish (cast Z f w) rest ≡ readingCast Z f (finish w rest)
+  unfolding finish manifold readingCast cast
+  finish-cast h6 rest =
+      rw (manifold-links (cast-same C (w .links) h) h6)
+      (test-cast (eqb (w .count) (w .darts)) 15 _ _
+      (test-cast (manifold w) 16 _ _
+      (test-cast (eqb (value (take (length rest % 8) rest)) 0) 17 _ _
+      (test-cast (eqb (length rest / 8) 0) 18 (Reading.complete w) (Reading.complete (cast Z f w)) refl))))
 
 -- where a run leaves the reading is the same
-settle-carried : (w : Walk) (x : List ℕ) (bs : List Bool) → Inv w → settle (runAll (tailed w x) bs) ≡ readingTailed x (settle (runAll w bs))
-unfolding runAll tailed
-settle-carried w x bs v = ap settle (run-carried k w x bs v) ∙ go (run k w bs) (ran k w bs)
+settle-carried : {Z : Layout} {f : List ℕ → List ℕ} (w : Walk) (bs : List Bool) → CastsOf w Z f → Inv w
+    → settle (runAll (cast Z f w) bs) ≡ readingCast Z f (settle (runAll w bs))
+unfolding runAll cast
+settle-carried {Z} {f} w bs C v = ap settle (run-carried k w bs C v) ∙ go (run k w bs) (ran k w bs)
   where
     k : ℕ
     k = enough (w .dim) (w .darts)
 
-    go : (r : Run) → Final w bs r → settle (runTailed x r) ≡ readingTailed x (settle r)
-    go _ (Final.ended {w' = w1} {rest = r1} y o) = unfold settle runTailed in
-        let s = moves-inv (y .moves) v .shape in finish-tailed w1 x (s .table) (s .ranks) r1
-    go _ (Final.waits y) = unfold settle runTailed readingTailed in refl
-    go _ (Final.refused {w' = w1} nr i y _) = unfold settle runTailed in spoiled-tailed w1 x (moves-inv (y .moves) v .shape .table) nr
+    go : (r : Run) → Final w bs r → settle (runCast Z f r) ≡ readingCast Z f (settle r)
+    go _ (Final.ended {w' = w1} {rest = r1} y o) = unfold settle runCast in
+        let s = moves-inv (y .moves) v .shape in finish-cast w1 (casts-on (moves-grow (y .moves) v) C) (s .table) (s .ranks) r1
+    go _ (Final.waits y) = unfold settle runCast readingCast in refl
+    go _ (Final.refused {w' = w1} nr i y _) = unfold settle runCast in
+        spoiled-cast w1 (casts-on (moves-grow (y .moves) v) C) (moves-inv (y .moves) v .shape .table) nr
 
--- what the bits so far come to is the same where the tables hold what the header asks for
-reading-carried : (bits : List Bool) (m x : List ℕ) → headerSize bits ≤ length m → readingOf bits (m ++ x) ≡ readingTailed x (readingOf bits m)
-unfolding readingOf headerSize
-reading-carried bits m x h = go (leb 16 (length bits)) refl h
+-- N and n of the map that a header asks for; of none while it is not in or its N does not fit
+unfoldable pub headerSizes : List Bool → ℕ × ℕ
+headerSizes bits = cond (leb 16 (length bits) && dimFits (headerDim bits)) (headerDim bits, headerDarts bits) (0, 0)
+
+-- f casts, and tables t are long enough for the map held so exactly if they are as they stand
+pub record CastsFor (Y Z : Layout) (f : List ℕ → List ℕ) (t : List ℕ) (z : ℕ × ℕ) : Type 0 where
+  pub casts : Casts Y Z (z .0) (z .1) f
+  pub long : leb (size (z .0) (z .1)) (length (f t)) ≡ leb (size (z .0) (z .1)) (length t)
+
+-- what the bits so far come to is the same
+pub reading-carried : {Y Z : Layout} {f : List ℕ → List ℕ} (bits : List Bool) (t : List ℕ) → CastsFor Y Z f t (headerSizes bits)
+    → readingOf Z bits (f t) ≡ readingCast Z f (readingOf Y bits t)
+unfolding readingOf headerSizes
+reading-carried {Y} {Z} {f} bits t C = go (leb 16 (length bits)) refl C
   where
     N : ℕ
     N = headerDim bits
@@ -360,134 +466,232 @@ reading-carried bits m x h = go (leb 16 (length bits)) refl h
     n : ℕ
     n = headerDarts bits
 
-    from : size N n ≤ length m → start N n (m ++ x) ≡ tailed (start N n m) x
-    from h = unfold start tailed in rw (blank-past (size N n) m x h)
+    from : Casts Y Z N n f → size N n ≤ length t → start Z N n (f t) ≡ cast Z f (start Y N n t)
+    from C h = unfold start cast in rw (C .blanks t h)
 
-    body : 16 ≤ length bits → (a : Bool) → dimFits N ≡ a → cond (true && a) (size N n) 0 ≤ length m
-        → begun a (leb (size N n) (length (m ++ x))) N n (drop 16 bits) (m ++ x) ≡ readingTailed x (begun a (leb (size N n) (length m)) N n (drop 16 bits) m)
-    body l false q h = unfold begun readingTailed in refl
-    body l true q h =
+    room : 16 ≤ length bits → dimFits N ≡ true → Casts Y Z N n f → (b : Bool) → leb (size N n) (length t) ≡ b
+        → begun Z true b N n (drop 16 bits) (f t) ≡ readingCast Z f (begun Y true b N n (drop 16 bits) t)
+    room l q C false e = unfold begun readingCast in refl
+    room l q C true e =
         let (lo, hi) = header-darts bits l in
-        let v = start-inv N n m lo hi (dim-fits N q .1) in
-        rw (le-leb (size N n) (length m) h, le-leb (size N n) (length (m ++ x)) (simp length-append (omega arith)))
-        (unfold begun in rw (from h) (settle-carried (start N n m) x (drop 16 bits) v))
+        let v = start-inv Y N n t lo hi (dim-fits N q .1) in
+        unfold begun in rw (from C (leb-true (size N n) (length t) e)) (settle-carried (start Y N n t) (drop 16 bits) (unfold start in C) v)
 
-    go : (b : Bool) → leb 16 (length bits) ≡ b → cond (b && dimFits N) (size N n) 0 ≤ length m
-        → readHeader b bits (m ++ x) ≡ readingTailed x (readHeader b bits m)
-    go false q h = unfold readHeader readingTailed in refl
-    go true q h = unfold readHeader in body (leb-true 16 (length bits) q) (dimFits N) refl h
+    body : 16 ≤ length bits → (a : Bool) → dimFits N ≡ a → CastsFor Y Z f t (cond (true && a) (N, n) (0, 0))
+        → begun Z a (leb (size N n) (length (f t))) N n (drop 16 bits) (f t)
+        ≡ readingCast Z f (begun Y a (leb (size N n) (length t)) N n (drop 16 bits) t)
+    body l false q C = unfold begun readingCast in refl
+    body l true q C = rw (C .long) (room l q (C .casts) (leb (size N n) (length t)) refl)
+
+    go : (b : Bool) → leb 16 (length bits) ≡ b → CastsFor Y Z f t (cond (b && dimFits N) (N, n) (0, 0))
+        → readHeader Z b bits (f t) ≡ readingCast Z f (readHeader Y b bits t)
+    go false q C = unfold readHeader readingCast in refl
+    go true q C = unfold readHeader in body (leb-true 16 (length bits) q) (dimFits N) refl C
+
+-- f casts the tables of a reading
+unfoldable CastsHeld : Layout → (List ℕ → List ℕ) → Reading → Type 0
+CastsHeld Z f (Reading.header bs) = Unit
+CastsHeld Z f (Reading.running w bs) = CastsOf w Z f
+CastsHeld Z f (Reading.complete w) = Unit
+CastsHeld Z f (Reading.closed w) = Unit
+CastsHeld Z f (Reading.refused nr p u) = Unit
 
 -- closing is the same
-closing-carried : {r : Reading} → Fits r → (t x : List ℕ) → closing (readingTailed x r) (t ++ x) ≡ readingTailed x (closing r t)
-unfolding closing readingTailed
-closing-carried (Fits.header h) t x = refl
-closing-carried (Fits.running {w} v h a) t x = spoiled-tailed w x (v .shape .table) 11
-closing-carried (Fits.complete v h o c) t x = refl
-closing-carried (Fits.refused h) t x = refl
+closing-carried : {Y : Layout} (Z : Layout) (f : List ℕ → List ℕ) {r : Reading} → Fits Y r → CastsHeld Z f r → (t : List ℕ)
+    → closing (readingCast Z f r) (f t) ≡ readingCast Z f (closing r t)
+unfolding closing readingCast CastsHeld
+closing-carried Z f (Fits.header h) C t = refl
+closing-carried Z f (Fits.running {w} v h a) C t = spoiled-cast w C (v .shape .table) 11
+closing-carried Z f (Fits.complete v h o c) C t = refl
+closing-carried Z f (Fits.refused h) C t = refl
 
--- record and answer are those of the entries alone
-leaves-carried : (r : Reading) (t x : List ℕ) → leaves (readingTailed x r) (t ++ x) ≡ leftTailed x (leaves r t)
-unfolding leaves readingTailed leftTailed store held idle answerOf goodAnswer tablesOf tailed steps
-leaves-carried (Reading.header bs) t x = refl
-leaves-carried (Reading.running w bs) t x = refl
-leaves-carried (Reading.complete w) t x = refl
-leaves-carried (Reading.closed w) t x = refl
-leaves-carried (Reading.refused nr p u) t x = refl
+-- record and answer are the same, the tables held so
+pub leaves-carried : (Z : Layout) (f : List ℕ → List ℕ) (r : Reading) (t : List ℕ) → leaves (readingCast Z f r) (f t) ≡ leftCast f (leaves r t)
+unfolding leaves readingCast leftCast store held idle answerOf goodAnswer tablesOf cast steps
+leaves-carried Z f (Reading.header bs) t = refl
+leaves-carried Z f (Reading.running w bs) t = refl
+leaves-carried Z f (Reading.complete w) t = refl
+leaves-carried Z f (Reading.closed w) t = refl
+leaves-carried Z f (Reading.refused nr p u) t = refl
 
--- a whole read on longer tables is the read on the entries alone, with the rest carried along
-pub read-carried : (bytes m x : List ℕ) → headerSize (unpack bytes) ≤ length m
-    → leaves (readWhole bytes (m ++ x)) (m ++ x) ≡ leftTailed x (leaves (readWhole bytes m) m)
+-- the walk of a reading has the sizes of its header
+casts-reading : {Y Z : Layout} {f : List ℕ → List ℕ} (bits : List Bool) (t : List ℕ) → CastsFor Y Z f t (headerSizes bits) → CastsHeld Z f (readingOf Y bits t)
+casts-reading {Y} {Z} {f} bits t C = go (readingOf Y bits t) (comes Y bits t)
+  where
+    settled-casts : (w : Walk) (bs : List Bool) (r : Reading) → Inv w → CastsOf w Z f → Settled w bs r → CastsHeld Z f r
+    settled-casts w bs _ v K (Settled.runs x a) = unfold CastsHeld in casts-on (moves-grow (x .moves) v) K
+    settled-casts w bs _ v K (Settled.completes x o g) = unfold CastsHeld in tt
+    settled-casts w bs _ v K (Settled.spoils nr i x s) = unfold CastsHeld spoiled in tt
+
+    sized : (h : Accepted bits t) → headerSizes bits ≡ (headerDim bits, headerDarts bits)
+    sized h = unfold headerSizes in rw (le-leb 16 (length bits) (h .long), fits-dim (headerDim bits) (h .dims .0) (h .dims .1))
+
+    go : (r : Reading) → Comes Y bits t r → CastsHeld Z f r
+    go _ (Comes.short l) = unfold CastsHeld in tt
+    go _ (Comes.unsized nr e) = unfold CastsHeld in tt
+    go r (Comes.walks x s) =
+        let D : CastsFor Y Z f t (headerDim bits, headerDarts bits) = rw (sized x) at C in
+        settled-casts (start Y (headerDim bits) (headerDarts bits) t) (drop 16 bits) r (header-inv Y bits t x) (unfold start in D .casts) s
+
+-- a whole read is the same
+pub read-carried : {Y Z : Layout} {f : List ℕ → List ℕ} (bytes t : List ℕ) → CastsFor Y Z f t (headerSizes (unpack bytes))
+    → leaves (readWhole Z bytes (f t)) (f t) ≡ leftCast f (leaves (readWhole Y bytes t) t)
 unfolding readWhole
-read-carried bytes m x h = rw (reading-carried (unpack bytes) m x h, closing-carried (reading-fits bytes m) m x)
-    (leaves-carried (closing (readingOf (unpack bytes) m) m) m x)
+read-carried {Y} {Z} {f} bytes t C =
+    rw (reading-carried (unpack bytes) t C, closing-carried Z f (reading-fits Y bytes t) (casts-reading (unpack bytes) t C) t)
+    (leaves-carried Z f (closing (readingOf Y (unpack bytes) t) t) t)
 
 -- what running and complete share is tested the same
-walk-fits-links : (s : Session) (t u : List ℕ) → SameMap (s .dim) (s .darts) t u → walkFits s t ≡ walkFits s u
+walk-fits-links : {Y Z : Layout} (s : Session) (t u : List ℕ) → SameMap Y Z (s .dim) (s .darts) t u → walkFits Z s u ≡ walkFits Y s t
 unfolding walkFits entriesFit
-walk-fits-links s t u S =
+walk-fits-links {Y} {Z} s t u S =
     let k = size (s .dim) (s .darts) in
-    let e = below-same k (entry t) (entry u) (λ k h. rw (nth-links S k h (k % s .darts))) in
+    let e = below-same k (entry Z u) (entry Y t) (λ k h. rw (nth-links S k h (k % s .darts))) in
     rw (le-leb k (length t) (S .room), le-leb k (length u) (S .room'), e)
   where
-    entry : List ℕ → ℕ → Bool
-    entry l k = entryFits s (k / s .darts) (k % s .darts) (link (s .dim) (s .darts) l (k / s .darts) (k % s .darts))
+    entry : Layout → List ℕ → ℕ → Bool
+    entry X l k = entryFits s (k / s .darts) (k % s .darts) (link X (s .dim) (s .darts) l (k / s .darts) (k % s .darts))
+
+-- after a test that fails nothing counts
+cut-off : (x a b c d d' : Bool) → (x && false && a && b && c && d) ≡ (x && false && a && b && c && d')
+cut-off true a b c d d' = refl
+cut-off false a b c d d' = refl
+
+walk-fits-cast : {Y Z : Layout} {f : List ℕ → List ℕ} (s : Session) (t : List ℕ) → CastsFor Y Z f t (s .dim, s .darts) → walkFits Z s (f t) ≡ walkFits Y s t
+walk-fits-cast {Y} {Z} {f} s t C = go (leb (size (s .dim) (s .darts)) (length t)) refl
+  where
+    go : (b : Bool) → leb (size (s .dim) (s .darts)) (length t) ≡ b → walkFits Z s (f t) ≡ walkFits Y s t
+    go true e = walk-fits-links s t (f t) (cast-same (C .casts) t (leb-true (size (s .dim) (s .darts)) (length t) e))
+    go false e = unfold walkFits in rw (C .long, e) (cut-off (dimFits (s .dim) && dartsFit (s .darts)) (leb 1 (s .count)) (leb (s .count) (s .darts)) (positionsFit s) _ _)
 
 -- whether the next step needs a symbol is the same
-asks-tailed : (w : Walk) (x : List ℕ) → Inv w → asks (tailed w x) (head w) ≡ asks w (head w)
-asks-tailed w x v = go (head w) refl
+asks-cast : {Z : Layout} {f : List ℕ → List ℕ} (w : Walk) → CastsOf w Z f → Inv w → asks (cast Z f w) (head w) ≡ asks w (head w)
+asks-cast {Z} {f} w C v = go (head w) refl
   where
-    go : (h : Head) → head w ≡ h → asks (tailed w x) h ≡ asks w h
+    go : (h : Head) → head w ≡ h → asks (cast Z f w) h ≡ asks w h
     go Head.none h = unfold asks in refl
-    go (Head.at j b) h = unfold asks in rw (partner-tailed w x (v .shape) j b (next-of w v h .next .ranked))
+    go (Head.at j b) h = unfold asks in rw (partner-cast w C (v .shape) j b (next-of w v h .next .ranked))
 
-module _ (s : Session) (seven : length (s .positions) ≡ 7) (ys : List Bool) (m x : List ℕ) where
+-- N and n of the map whose entries a call with these bits may touch, by the state: the session's or the header's; of a closed or refused session there is none
+unfoldable pub sizesAs : State → Session → List Bool → ℕ × ℕ
+sizesAs Header s ys = headerSizes (waitingOf s ++ ys)
+sizesAs Running s ys = (s .dim, s .darts)
+sizesAs Complete s ys = (s .dim, s .darts)
+sizesAs Closed s ys = (0, 0)
+sizesAs (Refused nr p) s ys = (0, 0)
+
+-- by the session's own state; closing brings no bits
+unfoldable pub sizes : Session → List Bool → ℕ × ℕ
+sizes s ys = sizesAs (s .state) s ys
+
+module _ {Y Z : Layout} {f : List ℕ → List ℕ} (s : Session) (seven : length (s .positions) ≡ 7) (ys : List Bool) (t : List ℕ) where
   -- fitness is the same, by the state and for any session
-  fit-as-carried : (st : State) → reachAs st s ys ≤ length m → fitAs st s (m ++ x) ≡ fitAs st s m
-  unfolding reachAs fitAs walkAt tailed
-  fit-as-carried Header h = refl
-  fit-as-carried Running h = rw (walk-fits-links s (m ++ x) m (past-same m x h)) (go (walkFits s m) refl)
+  fit-as-carried : (st : State) → CastsFor Y Z f t (sizesAs st s ys) → fitAs Z st s (f t) ≡ fitAs Y st s t
+  unfolding sizesAs fitAs walkAt cast
+  fit-as-carried Header C = refl
+  fit-as-carried Running C = rw (walk-fits-cast s t C) (go (walkFits Y s t) refl)
     where
-      tests : Bool → List ℕ → Bool
-      tests b l = b && asks (walkOf s l) (head (walkOf s m)) && leb (s .waiting) 13 && valueFits s && begins (waitingOf s)
+      tests : Bool → Layout → List ℕ → Bool
+      tests b X l = b && asks (walkOf X s l) (head (walkOf Y s t)) && leb (s .waiting) 13 && valueFits s && begins (waitingOf s)
 
-      go : (b : Bool) → walkFits s m ≡ b → tests b (m ++ x) ≡ tests b m
+      go : (b : Bool) → walkFits Y s t ≡ b → tests b Z (f t) ≡ tests b Y t
       go false q = refl
-      go true q = rw (asks-tailed (walkOf s m) x (fits-inv s m seven q .0))
-  fit-as-carried Complete h = rw (walk-fits-links s (m ++ x) m (past-same m x h))
-  fit-as-carried Closed h = refl
-  fit-as-carried (Refused nr p) h = refl
+      go true q = rw (asks-cast (walkOf Y s t) (C .casts) (fits-inv Y s t seven q .0))
+  fit-as-carried Complete C = rw (walk-fits-cast s t C)
+  fit-as-carried Closed C = refl
+  fit-as-carried (Refused nr p) C = refl
 
-  pub fit-carried : reach s ys ≤ length m → fit s (m ++ x) ≡ fit s m
-  unfolding fit reach
-  fit-carried h = fit-as-carried (s .state) h
+  pub fit-carried : CastsFor Y Z f t (sizes s ys) → fit Z s (f t) ≡ fit Y s t
+  unfolding fit sizes
+  fit-carried C = fit-as-carried (s .state) C
 
   -- a page and closing are the same, by the state
-  page-as-carried : (st : State) → fitAs st s m ≡ true → reachAs st s ys ≤ length m → pageAs st s ys (m ++ x) ≡ leftTailed x (pageAs st s ys m)
-  unfolding reachAs pageAs goOn afterEnd readingTailed walkAt tailed
-  page-as-carried Header e h = rw (reading-carried (waitingOf s ++ ys) m x h) (leaves-carried (readingOf (waitingOf s ++ ys) m) m x)
-  page-as-carried Running e h =
-      let v = fits-inv s m seven (running-part s m seven e 0) .0 in
-      rw (settle-carried (walkOf s m) x (waitingOf s ++ ys) v) (leaves-carried (settle (runAll (walkOf s m) (waitingOf s ++ ys))) m x)
-  page-as-carried Complete e h = go ys
+  page-as-carried : (st : State) → fitAs Y st s t ≡ true → CastsFor Y Z f t (sizesAs st s ys) → pageAs Z st s ys (f t) ≡ leftCast f (pageAs Y st s ys t)
+  unfolding sizesAs pageAs goOn afterEnd readingCast walkAt cast
+  page-as-carried Header e C = rw (reading-carried (waitingOf s ++ ys) t C) (leaves-carried Z f (readingOf Y (waitingOf s ++ ys) t) t)
+  page-as-carried Running e C =
+      let v = fits-inv Y s t seven (running-part Y s t seven e 0) .0 in
+      rw (settle-carried (walkOf Y s t) (waitingOf s ++ ys) (C .casts) v) (leaves-carried Z f (settle (runAll (walkOf Y s t) (waitingOf s ++ ys))) t)
+  page-as-carried Complete e C = go ys
     where
-      go : (zs : List Bool) → leaves (afterEnd (walkOf s (m ++ x)) zs) (m ++ x) ≡ leftTailed x (leaves (afterEnd (walkOf s m) zs) m)
-      go [] = leaves-carried (Reading.complete (walkOf s m)) m x
-      go (z ∷ zs) = rw (spoiled-tailed (walkOf s m) x h 18) (leaves-carried (spoiled 18 (walkOf s m)) m x)
-  page-as-carried Closed e h = unfold unchanged leftTailed in refl
-  page-as-carried (Refused nr p) e h = unfold unchanged leftTailed in refl
+      h : size (s .dim) (s .darts) ≤ length t
+      h = unfold walkAt in fits-inv Y s t seven (and-left (walkFits Y s t) (allDone s) (unfold fitAs in e)) .0 .shape .table
 
-  close-as-carried : (st : State) → reachAs st s ys ≤ length m → closeAs st s (m ++ x) ≡ leftTailed x (closeAs st s m)
-  unfolding reachAs closeAs closing readingTailed walkAt tailed
-  close-as-carried Header h = leaves-carried (Reading.refused 11 0 m) m x
-  close-as-carried Running h = rw (spoiled-tailed (walkOf s m) x h 11) (leaves-carried (spoiled 11 (walkOf s m)) m x)
-  close-as-carried Complete h = leaves-carried (Reading.closed (walkOf s m)) m x
-  close-as-carried Closed h = unfold unchanged leftTailed in refl
-  close-as-carried (Refused nr p) h = unfold unchanged leftTailed in refl
+      go : (zs : List Bool) → leaves (afterEnd (walkOf Z s (f t)) zs) (f t) ≡ leftCast f (leaves (afterEnd (walkOf Y s t) zs) t)
+      go [] = leaves-carried Z f (Reading.complete (walkOf Y s t)) t
+      go (z ∷ zs) = rw (spoiled-cast (walkOf Y s t) (C .casts) h 18) (leaves-carried Z f (spoiled 18 (walkOf Y s t)) t)
+  page-as-carried Closed e C = unfold unchanged leftCast in refl
+  page-as-carried (Refused nr p) e C = unfold unchanged leftCast in refl
 
-  -- a fit session on longer tables does what it does on the entries alone; an unfit one leaves them
-  if-fit-carried : reach s ys ≤ length m → (l l' : Left) → (fit s m ≡ true → l' ≡ leftTailed x l)
-      → ifFit (fit s (m ++ x)) s (m ++ x) l' ≡ leftTailed x (ifFit (fit s m) s m l)
-  if-fit-carried h l l' f = rw (fit-carried h) (go (fit s m) refl)
+  close-as-carried : (st : State) → fitAs Y st s t ≡ true → CastsFor Y Z f t (sizesAs st s ys) → closeAs Z st s (f t) ≡ leftCast f (closeAs Y st s t)
+  unfolding sizesAs closeAs closing readingCast walkAt cast
+  close-as-carried Header e C = leaves-carried Z f (Reading.refused 11 0 t) t
+  close-as-carried Running e C =
+      let h = fits-inv Y s t seven (running-part Y s t seven e 0) .0 .shape .table in
+      rw (spoiled-cast (walkOf Y s t) (C .casts) h 11) (leaves-carried Z f (spoiled 11 (walkOf Y s t)) t)
+  close-as-carried Complete e C = leaves-carried Z f (Reading.closed (walkOf Y s t)) t
+  close-as-carried Closed e C = unfold unchanged leftCast in refl
+  close-as-carried (Refused nr p) e C = unfold unchanged leftCast in refl
+
+  -- a fit session does what it does on the tables themselves; an unfit one leaves them
+  if-fit-carried : CastsFor Y Z f t (sizes s ys) → (l l' : Left) → (fit Y s t ≡ true → l' ≡ leftCast f l)
+      → ifFit (fit Z s (f t)) s (f t) l' ≡ leftCast f (ifFit (fit Y s t) s t l)
+  if-fit-carried C l l' g = rw (fit-carried C) (go (fit Y s t) refl)
     where
-      go : (b : Bool) → fit s m ≡ b → ifFit b s (m ++ x) l' ≡ leftTailed x (ifFit b s m l)
-      go true e = unfold ifFit in f e
-      go false e = unfold ifFit unchanged leftTailed in refl
+      go : (b : Bool) → fit Y s t ≡ b → ifFit b s (f t) l' ≡ leftCast f (ifFit b s t l)
+      go true e = unfold ifFit in g e
+      go false e = unfold ifFit unchanged leftCast in refl
 
--- a page on longer tables is the page on the entries alone, with the rest carried along
-pub page-carried : (s : Session) (bytes m x : List ℕ) → length (s .positions) ≡ 7 → reach s (unpack bytes) ≤ length m
-    → page s bytes (m ++ x) ≡ leftTailed x (page s bytes m)
-unfolding page fit reach
-page-carried s bytes m x seven h = if-fit-carried s seven ys m x h (pageAs (s .state) s ys m) (pageAs (s .state) s ys (m ++ x))
-    (λ e. page-as-carried s seven ys m x (s .state) e h)
+-- a page is the same
+pub page-carried : {Y Z : Layout} {f : List ℕ → List ℕ} (s : Session) (bytes t : List ℕ) → length (s .positions) ≡ 7 → CastsFor Y Z f t (sizes s (unpack bytes))
+    → page Z s bytes (f t) ≡ leftCast f (page Y s bytes t)
+unfolding page fit sizes
+page-carried {Y} {Z} {f} s bytes t seven C = if-fit-carried s seven ys t C (pageAs Y (s .state) s ys t) (pageAs Z (s .state) s ys (f t))
+    (λ e. page-as-carried s seven ys t (s .state) e C)
   where
     ys : List Bool
     ys = unpack bytes
 
+-- the bytes to fetch after it too
+pub fetch-carried : {Y Z : Layout} {f : List ℕ → List ℕ} (s : Session) (bytes t : List ℕ) → length (s .positions) ≡ 7
+    → CastsFor Y Z f t (sizes s (unpack bytes)) → pageCall Z s bytes (f t) .answer ≡ pageCall Y s bytes t .answer
+unfolding pageCall fetching leftCast
+fetch-carried s bytes t seven C = rw (fit-carried s seven (unpack bytes) t C, page-carried s bytes t seven C)
+
 -- and so is closing
-pub close-carried : (s : Session) (m x : List ℕ) → length (s .positions) ≡ 7 → reach s [] ≤ length m → close s (m ++ x) ≡ leftTailed x (close s m)
-unfolding close reach
-close-carried s m x seven h = if-fit-carried s seven [] m x h (closeAs (s .state) s m) (closeAs (s .state) s (m ++ x))
-    (λ e. close-as-carried s seven [] m x (s .state) h)
+pub close-carried : {Y Z : Layout} {f : List ℕ → List ℕ} (s : Session) (t : List ℕ) → length (s .positions) ≡ 7 → CastsFor Y Z f t (sizes s [])
+    → close Z s (f t) ≡ leftCast f (close Y s t)
+unfolding close fit sizes
+close-carried {Y} {Z} {f} s t seven C = if-fit-carried s seven [] t C (closeAs Y (s .state) s t) (closeAs Z (s .state) s (f t))
+    (λ e. close-as-carried s seven [] t (s .state) e C)
+
+-- With more entries behind the map's own.
+
+-- the entries that a call may touch are those of its sizes
+header-reach : (bits : List Bool) → size (headerSizes bits .0) (headerSizes bits .1) ≡ headerSize bits
+unfolding headerSizes headerSize
+header-reach bits = go (leb 16 (length bits) && dimFits (headerDim bits)) (headerDim bits, headerDarts bits)
+  where
+    go : (b : Bool) (x : ℕ × ℕ) → size (cond b x (0, 0) .0) (cond b x (0, 0) .1) ≡ cond b (size (x .0) (x .1)) 0
+    go true x = refl
+    go false x = refl
+
+sizes-reach : (s : Session) (ys : List Bool) → size (sizes s ys .0) (sizes s ys .1) ≡ reach s ys
+unfolding sizes reach
+sizes-reach s ys = go (s .state)
+  where
+    go : (st : State) → size (sizesAs st s ys .0) (sizesAs st s ys .1) ≡ reachAs st s ys
+    go Header = unfold sizesAs reachAs in header-reach (waitingOf s ++ ys)
+    go Running = unfold sizesAs reachAs in refl
+    go Complete = unfold sizesAs reachAs in refl
+    go Closed = unfold sizesAs reachAs in refl
+    go (Refused nr p) = unfold sizesAs reachAs in refl
+
+behind-for : {Y : Layout} (z : ℕ × ℕ) (k : ℕ) → size (z .0) (z .1) ≡ k → (m x : List ℕ) → k ≤ length m → CastsFor Y Y (λ t. t ++ x) m z
+behind-for {Y} z k e m x h = record {
+  casts = behind-casts Y (z .0) (z .1) x;
+  long = rw (e, le-leb k (length m) h, le-leb k (length (m ++ x)) (simp length-append (omega arith)));
+}
 
 -- what a call leaves on t and on other tables: record and answer are the same, the first k entries too, and what is past them in t is as it was
 pub record SameLeft (k : ℕ) (t : List ℕ) (l l' : Left) : Type 0 where
@@ -497,10 +701,10 @@ pub record SameLeft (k : ℕ) (t : List ℕ) (l l' : Left) : Type 0 where
   pub past : drop k (l .tables) ≡ drop k t
 
 -- a call that carries along what stands behind k entries or more, and leaves what is past them
-module _ (k : ℕ) (call : List ℕ → Left) (carried : (m x : List ℕ) → k ≤ length m → call (m ++ x) ≡ leftTailed x (call m))
+module _ (k : ℕ) (call : List ℕ → Left) (carried : (m x : List ℕ) → k ≤ length m → call (m ++ x) ≡ leftCast (λ t. t ++ x) (call m))
     (past : (t : List ℕ) → drop k (call t .tables) ≡ drop k t) where
   entries-carried : (m x : List ℕ) → k ≤ length m → take k (call (m ++ x) .tables) ≡ take k (call m .tables)
-  unfolding leftTailed
+  unfolding leftCast
   entries-carried m x h = append-cancel-right (take k a) (take k b) (drop k (m ++ x)) (whole ∙ sym front)
     where
       a : List ℕ
@@ -516,7 +720,7 @@ module _ (k : ℕ) (call : List ℕ → Left) (carried : (m x : List ℕ) → k 
       front = rw (drop-append-le k m x h, ← append-assoc, ← past m, take-append-drop)
 
   same-left : (t u : List ℕ) → Alike k t u → SameLeft k t (call t) (call u)
-  unfolding leftTailed
+  unfolding leftCast
   same-left t u A = record {
     session = alike-by k (λ l. call l .session) (λ m x h. ap (λ (l : Left). l .session) (carried m x h)) t u A;
     answer = alike-by k (λ l. call l .answer) (λ m x h. ap (λ (l : Left). l .answer) (carried m x h)) t u A;
@@ -525,91 +729,63 @@ module _ (k : ℕ) (call : List ℕ → Left) (carried : (m x : List ℕ) → k 
   }
 
 -- a session is fit with both or with neither
-pub fit-alike : (s : Session) (t u : List ℕ) → length (s .positions) ≡ 7 → Alike (reach s []) t u → fit s t ≡ fit s u
-fit-alike s t u seven A = alike-by (reach s []) (fit s) (fit-carried s seven []) t u A
+pub fit-alike : (Y : Layout) (s : Session) (t u : List ℕ) → length (s .positions) ≡ 7 → Alike (reach s []) t u → fit Y s t ≡ fit Y s u
+fit-alike Y s t u seven A = alike-by (reach s []) (fit Y s) (λ m x h. fit-carried s seven [] m (behind-for _ _ (sizes-reach s []) m x h)) t u A
 
 -- a page, on any session, of the entries of its map or of the header that these bytes complete
-pub page-alike : (s : Session) (bytes t u : List ℕ) → length (s .positions) ≡ 7 → Alike (reach s (unpack bytes)) t u
-    → SameLeft (reach s (unpack bytes)) t (page s bytes t) (page s bytes u)
-page-alike s bytes t u seven A = same-left (reach s (unpack bytes)) (page s bytes) (λ m x h. page-carried s bytes m x seven h)
-    (λ l. page-past s bytes l seven) t u A
+pub page-alike : (Y : Layout) (s : Session) (bytes t u : List ℕ) → length (s .positions) ≡ 7 → Alike (reach s (unpack bytes)) t u
+    → SameLeft (reach s (unpack bytes)) t (page Y s bytes t) (page Y s bytes u)
+page-alike Y s bytes t u seven A = same-left (reach s (unpack bytes)) (page Y s bytes)
+    (λ m x h. page-carried s bytes m seven (behind-for _ _ (sizes-reach s (unpack bytes)) m x h)) (λ l. page-past Y s bytes l seven) t u A
 
 -- and so are the bytes to fetch after it
-pub fetch-alike : (s : Session) (bytes t u : List ℕ) → length (s .positions) ≡ 7 → Alike (reach s (unpack bytes)) t u
-    → pageCall s bytes t .answer .fetch ≡ pageCall s bytes u .answer .fetch
-unfolding pageCall fetching leftTailed
-fetch-alike s bytes t u seven A = alike-by (reach s (unpack bytes)) (λ l. pageCall s bytes l .answer .fetch)
-    (λ m x h. rw (fit-carried s seven (unpack bytes) m x h, page-carried s bytes m x seven h)) t u A
+pub fetch-alike : (Y : Layout) (s : Session) (bytes t u : List ℕ) → length (s .positions) ≡ 7 → Alike (reach s (unpack bytes)) t u
+    → pageCall Y s bytes t .answer .fetch ≡ pageCall Y s bytes u .answer .fetch
+fetch-alike Y s bytes t u seven A = alike-by (reach s (unpack bytes)) (λ l. pageCall Y s bytes l .answer .fetch)
+    (λ m x h. ap (λ (a : PageAnswer). a .fetch) (fetch-carried s bytes m seven (behind-for _ _ (sizes-reach s (unpack bytes)) m x h))) t u A
 
 -- closing, on any session
-pub close-alike : (s : Session) (t u : List ℕ) → length (s .positions) ≡ 7 → Alike (reach s []) t u → SameLeft (reach s []) t (close s t) (close s u)
-close-alike s t u seven A = same-left (reach s []) (close s) (λ m x h. close-carried s m x seven h) (λ l. close-past s l seven) t u A
+pub close-alike : (Y : Layout) (s : Session) (t u : List ℕ) → length (s .positions) ≡ 7 → Alike (reach s []) t u
+    → SameLeft (reach s []) t (close Y s t) (close Y s u)
+close-alike Y s t u seven A = same-left (reach s []) (close Y s) (λ m x h. close-carried s m seven (behind-for _ _ (sizes-reach s []) m x h))
+    (λ l. close-past Y s l seven) t u A
 
 -- a whole read, of the entries that its header asks for
-pub read-alike : (bytes t u : List ℕ) → Alike (headerSize (unpack bytes)) t u
-    → (readAnswer bytes t ≡ readAnswer bytes u) × Alike (headerSize (unpack bytes)) (readTables bytes t) (readTables bytes u)
-    × (drop (headerSize (unpack bytes)) (readTables bytes t) ≡ drop (headerSize (unpack bytes)) t)
+pub read-alike : (Y : Layout) (bytes t u : List ℕ) → Alike (headerSize (unpack bytes)) t u
+    → (readAnswer Y bytes t ≡ readAnswer Y bytes u) × Alike (headerSize (unpack bytes)) (readTables Y bytes t) (readTables Y bytes u)
+    × (drop (headerSize (unpack bytes)) (readTables Y bytes t) ≡ drop (headerSize (unpack bytes)) t)
 unfolding readAnswer readTables leaves
-read-alike bytes t u A =
-    let S = same-left (headerSize (unpack bytes)) (λ l. leaves (readWhole bytes l) l) (read-carried bytes) (read-past bytes) t u A in
+read-alike Y bytes t u A =
+    let k = headerSize (unpack bytes) in
+    let S = same-left k (λ l. leaves (readWhole Y bytes l) l) (λ m x h. read-carried bytes m (behind-for _ _ (header-reach (unpack bytes)) m x h))
+    (read-past Y bytes) t u A in
     (S .answer, S .entries, S .past)
 
 -- The session's calls look at the lent tables' links alone.
 
--- N and n of the map whose entries a call with these bits may touch, by the state: the session's or the header's; of a closed or refused session there is none
-unfoldable pub sizesAs : State → Session → List Bool → ℕ × ℕ
-sizesAs Header s ys =
-    let bits = waitingOf s ++ ys in
-    cond (leb 16 (length bits) && dimFits (headerDim bits)) (headerDim bits, headerDarts bits) (0, 0)
-sizesAs Running s ys = (s .dim, s .darts)
-sizesAs Complete s ys = (s .dim, s .darts)
-sizesAs Closed s ys = (0, 0)
-sizesAs (Refused nr p) s ys = (0, 0)
-
--- by the session's own state; closing brings no bits
-unfoldable pub sizes : Session → List Bool → ℕ × ℕ
-sizes s ys = sizesAs (s .state) s ys
-
-sizes-reach : (s : Session) (ys : List Bool) → size (sizes s ys .0) (sizes s ys .1) ≡ reach s ys
-unfolding sizes reach
-sizes-reach s ys = go (s .state)
-  where
-    header : (b : Bool) (x : ℕ × ℕ) → size (cond b x (0, 0) .0) (cond b x (0, 0) .1) ≡ cond b (size (x .0) (x .1)) 0
-    header true x = refl
-    header false x = refl
-
-    go : (st : State) → size (sizesAs st s ys .0) (sizesAs st s ys .1) ≡ reachAs st s ys
-    go Header = unfold sizesAs reachAs headerSize in
-        let bits = waitingOf s ++ ys in
-        header (leb 16 (length bits) && dimFits (headerDim bits)) (headerDim bits, headerDarts bits)
-    go Running = unfold sizesAs reachAs in refl
-    go Complete = unfold sizesAs reachAs in refl
-    go Closed = unfold sizesAs reachAs in refl
-    go (Refused nr p) = unfold sizesAs reachAs in refl
-
 -- what a call leaves on them: the same record, the same answer, equal links
-pub record LinksLeft (N n : ℕ) (l l' : Left) : Type 0 where
+pub record LinksLeft (Y : Layout) (N n : ℕ) (l l' : Left) : Type 0 where
   pub session : l .session ≡ l' .session
   pub answer : l .answer ≡ l' .answer
-  pub links : SameLinks N n (l .tables) (l' .tables)
+  pub links : SameLinks Y Y N n (l .tables) (l' .tables)
 
-sizes-alike : (s : Session) (ys : List Bool) (t u : List ℕ) → SameMap (sizes s ys .0) (sizes s ys .1) t u → Alike (reach s ys) t u
-sizes-alike s ys t u S = rw (sizes-reach s ys) at (map-alike S)
+sizes-alike : (Y : Layout) (s : Session) (ys : List Bool) (t u : List ℕ) → SameMap Y Y (sizes s ys .0) (sizes s ys .1) t u → Alike (reach s ys) t u
+sizes-alike Y s ys t u S = rw (sizes-reach s ys) at (map-alike S)
 
-links-left : (s : Session) (ys : List Bool) (t : List ℕ) (l l' : Left) → SameLeft (reach s ys) t l l' → LinksLeft (sizes s ys .0) (sizes s ys .1) l l'
-links-left s ys t l l' L = record { session = L .session; answer = L .answer; links = alike-same (rw (sizes-reach s ys) (L .entries)) }
+links-left : (Y : Layout) (s : Session) (ys : List Bool) (t : List ℕ) (l l' : Left) → SameLeft (reach s ys) t l l' → LinksLeft Y (sizes s ys .0) (sizes s ys .1) l l'
+links-left Y s ys t l l' L = record { session = L .session; answer = L .answer; links = alike-same (rw (sizes-reach s ys) (L .entries)) }
 
-pub fit-links : (s : Session) (t u : List ℕ) → length (s .positions) ≡ 7 → SameMap (sizes s [] .0) (sizes s [] .1) t u → fit s t ≡ fit s u
-fit-links s t u seven S = fit-alike s t u seven (sizes-alike s [] t u S)
+pub fit-links : (Y : Layout) (s : Session) (t u : List ℕ) → length (s .positions) ≡ 7 → SameMap Y Y (sizes s [] .0) (sizes s [] .1) t u → fit Y s t ≡ fit Y s u
+fit-links Y s t u seven S = fit-alike Y s t u seven (sizes-alike Y s [] t u S)
 
-pub page-links : (s : Session) (bytes t u : List ℕ) → length (s .positions) ≡ 7 → SameMap (sizes s (unpack bytes) .0) (sizes s (unpack bytes) .1) t u
-    → LinksLeft (sizes s (unpack bytes) .0) (sizes s (unpack bytes) .1) (page s bytes t) (page s bytes u)
-page-links s bytes t u seven S = links-left s (unpack bytes) t _ _ (page-alike s bytes t u seven (sizes-alike s (unpack bytes) t u S))
+pub page-links : (Y : Layout) (s : Session) (bytes t u : List ℕ) → length (s .positions) ≡ 7 → SameMap Y Y (sizes s (unpack bytes) .0) (sizes s (unpack bytes) .1) t u
+    → LinksLeft Y (sizes s (unpack bytes) .0) (sizes s (unpack bytes) .1) (page Y s bytes t) (page Y s bytes u)
+page-links Y s bytes t u seven S = links-left Y s (unpack bytes) t _ _ (page-alike Y s bytes t u seven (sizes-alike Y s (unpack bytes) t u S))
 
-pub fetch-links : (s : Session) (bytes t u : List ℕ) → length (s .positions) ≡ 7 → SameMap (sizes s (unpack bytes) .0) (sizes s (unpack bytes) .1) t u
-    → pageCall s bytes t .answer .fetch ≡ pageCall s bytes u .answer .fetch
-fetch-links s bytes t u seven S = fetch-alike s bytes t u seven (sizes-alike s (unpack bytes) t u S)
+pub fetch-links : (Y : Layout) (s : Session) (bytes t u : List ℕ) → length (s .positions) ≡ 7 → SameMap Y Y (sizes s (unpack bytes) .0) (sizes s (unpack bytes) .1) t u
+    → pageCall Y s bytes t .answer .fetch ≡ pageCall Y s bytes u .answer .fetch
+fetch-links Y s bytes t u seven S = fetch-alike Y s bytes t u seven (sizes-alike Y s (unpack bytes) t u S)
 
-pub close-links : (s : Session) (t u : List ℕ) → length (s .positions) ≡ 7 → SameMap (sizes s [] .0) (sizes s [] .1) t u
-    → LinksLeft (sizes s [] .0) (sizes s [] .1) (close s t) (close s u)
-close-links s t u seven S = links-left s [] t _ _ (close-alike s t u seven (sizes-alike s [] t u S))
+pub close-links : (Y : Layout) (s : Session) (t u : List ℕ) → length (s .positions) ≡ 7 → SameMap Y Y (sizes s [] .0) (sizes s [] .1) t u
+    → LinksLeft Y (sizes s [] .0) (sizes s [] .1) (close Y s t) (close Y s u)
+close-links Y s t u seven S = links-left Y s [] t _ _ (close-alike Y s t u seven (sizes-alike Y s [] t u S))

@@ -9,7 +9,7 @@ use native.Mathlib.Decide.{decLt}
 use lib.ListN.{List·getD-eq-default, length, replicate, length-replicate}
 use Rattle.rules.specs.declared.ReadAnswer.{ReadAnswer}
 use Rattle.rules.specs.Lists.{number}
-use Rattle.rules.specs.Map.{mark, size, Valid, Connected, Limits}
+use Rattle.rules.specs.Map.{Layout, mark, size, Valid, Connected, Limits}
 use Rattle.rules.specs.Reading.{readAnswer, readTables}
 use Rattle.rules.specs.Walk.{namesOf}
 use Rattle.rules.specs.Writing.{stream}
@@ -20,11 +20,11 @@ use Rattle.rules.proofs.Follows.{stream-renamed, number-renamed}
 use Rattle.rules.proofs.Complete.{complete}
 
 -- a matching of two maps: it carries every ai of the one to the other, and root to root
-pub record Matched (N n : ℕ) (m : List ℕ) (root N' n' : ℕ) (m' : List ℕ) (root' : ℕ) : Type 0 where
+pub record Matched (Y : Layout) (N n : ℕ) (m : List ℕ) (root N' n' : ℕ) (m' : List ℕ) (root' : ℕ) : Type 0 where
   pub dim : N ≡ N'
   pub darts : n ≡ n'
   pub match : ℕ → ℕ
-  pub carries : Carries match N n m m'
+  pub carries : Carries Y Y match N n m m'
   pub rooted : match root ≡ root'
 
 -- past the last number there is no dart
@@ -33,22 +33,22 @@ unfolding name
 name-past names b h = List·getD-eq-default names mark h
 
 -- the dart of the second map with the walk number that d has in the first
-unfoldable pub sameNumber : (N n : ℕ) (m : List ℕ) (root : ℕ) (m' : List ℕ) (root' : ℕ) → ℕ → ℕ
-sameNumber N n m root m' root' d = name (namesOf N n m' root') (number (namesOf N n m root) d)
+unfoldable pub sameNumber : (Y : Layout) (N n : ℕ) (m : List ℕ) (root : ℕ) (m' : List ℕ) (root' : ℕ) → ℕ → ℕ
+sameNumber Y N n m root m' root' d = name (namesOf Y N n m' root') (number (namesOf Y N n m root) d)
 
-module _ {N n : ℕ} {m : List ℕ} {root : ℕ} {m' : List ℕ} {root' : ℕ} (h6 : N ≤ 6) (hn : n ≤ 4096)
-    (A : Valid N n m) (C : Connected N n m root) (A' : Valid N n m') (C' : Connected N n m' root') where
+module _ {Y : Layout} {N n : ℕ} {m : List ℕ} {root : ℕ} {m' : List ℕ} {root' : ℕ} (h6 : N ≤ 6) (hn : n ≤ 4096)
+    (A : Valid Y N n m) (C : Connected Y N n m root) (A' : Valid Y N n m') (C' : Connected Y N n m' root') where
   -- two maps that are read back as one
-  carries-number : (t : List ℕ) → Renumbered N n m t (namesOf N n m root) → Renumbered N n m' t (namesOf N n m' root')
-      → Carries (sameNumber N n m root m' root') N n m m'
+  carries-number : (t : List ℕ) → Renumbered Y N n m t (namesOf Y N n m root) → Renumbered Y N n m' t (namesOf Y N n m' root')
+      → Carries Y Y (sameNumber Y N n m root m' root') N n m m'
   unfolding sameNumber
   carries-number t R R' = carries-as (carries-then (R .carries) (carries-back (R' .carries) (A' .inside))) (A .inside) same (λ d h. only d h (decLt d n))
     where
       names : List ℕ
-      names = namesOf N n m root
+      names = namesOf Y N n m root
 
       names' : List ℕ
-      names' = namesOf N n m' root'
+      names' = namesOf Y N n m' root'
 
       same : (d : ℕ) → d < n → name names' (number names d) ≡ back (number names') n (number names d)
       same d h =
@@ -64,23 +64,23 @@ module _ {N n : ℕ} {m : List ℕ} {root : ℕ} {m' : List ℕ} {root' : ℕ} (
         where
           go : Dec (number names d < n) → length names' ≤ number names d
           go (yes k) = absurd (l (R .carries .only d k))
-          go (no k) = omega (arith, names-all N n m' root' h6 hn (C' .rooted) A' C')
+          go (no k) = omega (arith, names-all Y N n m' root' h6 hn (C' .rooted) A' C')
 
-  number-rooted : sameNumber N n m root m' root' root ≡ root'
+  number-rooted : sameNumber Y N n m root m' root' root ≡ root'
   unfolding sameNumber
-  number-rooted = rw (number-root N n m root h6 hn (C .rooted) A) (name-root N n m' root' h6 hn (C' .rooted) A')
+  number-rooted = rw (number-root Y N n m root h6 hn (C .rooted) A) (name-root Y N n m' root' h6 hn (C' .rooted) A')
 
   -- a matching takes each dart to the one of its walk number
-  pub match-number : {f : ℕ → ℕ} → Carries f N n m m' → f root ≡ root' → (d : ℕ) → d < n → f d ≡ sameNumber N n m root m' root' d
+  pub match-number : {f : ℕ → ℕ} → Carries Y Y f N n m m' → f root ≡ root' → (d : ℕ) → d < n → f d ≡ sameNumber Y N n m root m' root' d
   unfolding sameNumber
   match-number {f} K e d h =
-      let q : number (namesOf N n m' root') (f d) ≡ number (namesOf N n m root) d = rw e at (number-renamed K h6 hn (C .rooted) A d h) in
-      let l = reaches-numbered N n m' root' h6 hn (C' .rooted) A' (C' .reached (f d) (K .low d h)) in
-      sym (rw q at (name-number N n m' root' h6 hn (C' .rooted) A' (f d) l))
+      let q : number (namesOf Y N n m' root') (f d) ≡ number (namesOf Y N n m root) d = rw e at (number-renamed K h6 hn (C .rooted) A d h) in
+      let l = reaches-numbered Y N n m' root' h6 hn (C' .rooted) A' (C' .reached (f d) (K .low d h)) in
+      sym (rw q at (name-number Y N n m' root' h6 hn (C' .rooted) A' (f d) l))
 
 -- equal streams are read back to one map, so the darts of equal numbers match
-module _ {N n : ℕ} {m : List ℕ} {root N' n' : ℕ} {m' : List ℕ} {root' : ℕ} (L : Limits N n m) (A : Valid N n m) (C : Connected N n m root)
-    (L' : Limits N' n' m') (A' : Valid N' n' m') (C' : Connected N' n' m' root') where
+module _ {Y : Layout} {N n : ℕ} {m : List ℕ} {root N' n' : ℕ} {m' : List ℕ} {root' : ℕ} (L : Limits N n m) (A : Valid Y N n m) (C : Connected Y N n m root)
+    (L' : Limits N' n' m') (A' : Valid Y N' n' m') (C' : Connected Y N' n' m' root') where
   -- tables with room for both
   lent : List ℕ
   lent = replicate (size N n + size N' n') 0
@@ -93,34 +93,34 @@ module _ {N n : ℕ} {m : List ℕ} {root N' n' : ℕ} {m' : List ℕ} {root' : 
   unfolding lent
   room' = record { dims = L' .dims; darts = L' .darts; room = omega (arith, length-replicate {A = ℕ} (size N n + size N' n') 0) }
 
-  sizes : stream N n m root ≡ stream N' n' m' root' → (N ≡ N') × (n ≡ n')
+  sizes : stream Y N n m root ≡ stream Y N' n' m' root' → (N ≡ N') × (n ≡ n')
   sizes e =
-      let a = complete N n m root lent room A C .answer in
-      let a' = complete N' n' m' root' lent room' A' C' .answer in
-      let p = sym a ∙ (ap (λ (b : List ℕ). readAnswer b lent) e ∙ a') in
+      let a = complete Y N n m root lent room A C .answer in
+      let a' = complete Y N' n' m' root' lent room' A' C' .answer in
+      let p = sym a ∙ (ap (λ (b : List ℕ). readAnswer Y b lent) e ∙ a') in
       (ap (λ (a : ReadAnswer). a .dim) p, ap (λ (a : ReadAnswer). a .darts) p)
 
-  streams-match : stream N n m root ≡ stream N' n' m' root' → Matched N n m root N' n' m' root'
+  streams-match : stream Y N n m root ≡ stream Y N' n' m' root' → Matched Y N n m root N' n' m' root'
   streams-match e =
       let (eN, en) = sizes e in
-      let B : Valid N n m' = rw (eN, en) A' in
-      let D : Connected N n m' root' = rw (eN, en) C' in
-      let q : stream N n m' root' ≡ stream N' n' m' root' = λ i. stream (eN i) (en i) m' root' in
-      let R = complete N n m root lent room A C .renumbered in
-      let R' : Renumbered N n m' (readTables (stream N n m root) lent) (namesOf N n m' root') =
-      rw (e ∙ sym q) (complete N n m' root' lent room B D .renumbered) in
+      let B : Valid Y N n m' = rw (eN, en) A' in
+      let D : Connected Y N n m' root' = rw (eN, en) C' in
+      let q : stream Y N n m' root' ≡ stream Y N' n' m' root' = λ i. stream Y (eN i) (en i) m' root' in
+      let R = complete Y N n m root lent room A C .renumbered in
+      let R' : Renumbered Y N n m' (readTables Y (stream Y N n m root) lent) (namesOf Y N n m' root') =
+      rw (e ∙ sym q) (complete Y N n m' root' lent room B D .renumbered) in
       record {
         dim = eN;
         darts = en;
-        match = sameNumber N n m root m' root';
+        match = sameNumber Y N n m root m' root';
         carries = carries-number (L .dims .1) (L .darts .1) A C B D _ R R';
         rooted = number-rooted (L .dims .1) (L .darts .1) A C B D;
       }
 
-  match-streams : Matched N n m root N' n' m' root' → stream N n m root ≡ stream N' n' m' root'
+  match-streams : Matched Y N n m root N' n' m' root' → stream Y N n m root ≡ stream Y N' n' m' root'
   match-streams M = sym (rw (← M .dim, ← M .darts, ← M .rooted) (stream-renamed (M .carries) (L .dims .1) (L .darts .1) (C .rooted) A))
 
   -- two valid connected maps, each with a root, have equal streams exactly if a matching carries links to links and root to root
-  pub one-shape : (stream N n m root ≡ stream N' n' m' root' → Matched N n m root N' n' m' root')
-      × (Matched N n m root N' n' m' root' → stream N n m root ≡ stream N' n' m' root')
+  pub one-shape : (stream Y N n m root ≡ stream Y N' n' m' root' → Matched Y N n m root N' n' m' root')
+      × (Matched Y N n m root N' n' m' root' → stream Y N n m root ≡ stream Y N' n' m' root')
   one-shape = (streams-match, match-streams)

@@ -12,7 +12,7 @@ use lib.Dec.{eqb}
 use borrow.Author.Tests.{eq-eqb, ne-eqb}
 use Rattle.rules.specs.declared.ReportAnswer.{ReportAnswer}
 use Rattle.rules.specs.Lists.{allBelow}
-use Rattle.rules.specs.Map.{size, place, link}
+use Rattle.rules.specs.Map.{Layout, byRank, size, place, link}
 use Rattle.rules.specs.Check.{Verdict, verdict}
 use Rattle.rules.specs.Report.{freePairs, differ, crosses, apart, someClasses, orientable, cellCounts, reportAnswerOf, reportAnswer}
 use Rattle.rules.proofs.Lists.{and-right, not-both, all-below, below-same}
@@ -21,25 +21,25 @@ use Rattle.rules.proofs.Cells.{Free, free-are, some-classes}
 use Rattle.rules.proofs.Check.{fine-passes}
 
 -- document 01: every ai takes each dart to the other class
-unfoldable pub formerApart : ℕ → ℕ → List ℕ → List Bool → Bool
-formerApart N n t classes = allBelow (size N n) (λ k. differ (getD classes (k % n) false) (getD classes (link N n t (k / n) (k % n)) false))
+unfoldable pub formerApart : (Y : Layout) → ℕ → ℕ → List ℕ → List Bool → Bool
+formerApart Y N n t classes = allBelow (size N n) (λ k. differ (getD classes (k % n) false) (getD classes (link Y N n t (k / n) (k % n)) false))
 
 -- document 01: the darts can be put in two classes so that every ai takes each dart to the other class
-unfoldable pub formerOrientable : ℕ → ℕ → List ℕ → Bool
-formerOrientable N n t = someClasses n (formerApart N n t)
+unfoldable pub formerOrientable : (Y : Layout) → ℕ → ℕ → List ℕ → Bool
+formerOrientable Y N n t = someClasses n (formerApart Y N n t)
 
 -- document 01: a refusal has all counts 0 and is not orientable
-unfoldable pub formerAnswerOf : ℕ → ℕ → List ℕ → Verdict → ReportAnswer
-formerAnswerOf N n t Verdict.fine = record { number = 0; place = 0; cells = cellCounts N n t; free = freePairs N n t; orientable = formerOrientable N n t }
-formerAnswerOf N n t (Verdict.refused nr p) = record { number = nr; place = p; cells = replicate 7 0; free = 0; orientable = false }
+unfoldable pub formerAnswerOf : (Y : Layout) → ℕ → ℕ → List ℕ → Verdict → ReportAnswer
+formerAnswerOf Y N n t Verdict.fine = record { number = 0; place = 0; cells = cellCounts Y N n t; free = freePairs Y N n t; orientable = formerOrientable Y N n t }
+formerAnswerOf Y N n t (Verdict.refused nr p) = record { number = nr; place = p; cells = replicate 7 0; free = 0; orientable = false }
 
 -- document 01's report
-unfoldable pub formerAnswer : ℕ → ℕ → List ℕ → List ℕ → ReportAnswer
-formerAnswer N n t work = formerAnswerOf N n t (verdict N n 0 t (length work))
+unfoldable pub formerAnswer : (Y : Layout) → ℕ → ℕ → List ℕ → List ℕ → ReportAnswer
+formerAnswer Y N n t work = formerAnswerOf Y N n t (verdict Y N n 0 t (length work))
 
 -- no dart is free at any rank: a closed model
-abbrev pub NoneFree : ℕ → ℕ → List ℕ → Type 0
-NoneFree N n t = (i d : ℕ) → i ≤ N → d < n → link N n t i d ≢ d
+abbrev pub NoneFree : (Y : Layout) → ℕ → ℕ → List ℕ → Type 0
+NoneFree Y N n t = (i d : ℕ) → i ≤ N → d < n → link Y N n t i d ≢ d
 
 -- one test for another
 same-classes : (k : ℕ) (f g : List Bool → Bool) → ((c : List Bool) → f c ≡ g c) → someClasses k f ≡ someClasses k g
@@ -56,72 +56,72 @@ unfolding differ
 differ-own true = refl
 differ-own false = refl
 
-module _ (N n : ℕ) (t : List ℕ) (h1 : 1 ≤ n) where
+module _ (Y : Layout) (N n : ℕ) (t : List ℕ) (h1 : 1 ≤ n) where
   -- a closed model: the two rules are one
-  pub closed-agree : NoneFree N n t → orientable N n t ≡ formerOrientable N n t
+  pub closed-agree : NoneFree Y N n t → orientable Y N n t ≡ formerOrientable Y N n t
   unfolding orientable formerOrientable apart formerApart crosses
-  closed-agree F = same-classes n (apart N n t) (formerApart N n t) (λ c.
-      below-same (size N n) (λ k. crosses c (k % n) (link N n t (k / n) (k % n)))
-      (λ k. differ (getD c (k % n) false) (getD c (link N n t (k / n) (k % n)) false))
-      (λ k h. rw (ne-eqb (link N n t (k / n) (k % n)) (k % n) (F (k / n) (k % n) (nth-rank N n k h1 h) (nth-dart n k h1))) refl))
+  closed-agree F = same-classes n (apart Y N n t) (formerApart Y N n t) (λ c.
+      below-same (size N n) (λ k. crosses c (k % n) (link Y N n t (k / n) (k % n)))
+      (λ k. differ (getD c (k % n) false) (getD c (link Y N n t (k / n) (k % n)) false))
+      (λ k h. rw (ne-eqb (link Y N n t (k / n) (k % n)) (k % n) (F (k / n) (k % n) (nth-rank N n k h1 h) (nth-dart n k h1))) refl))
 
   -- an open one: document 01 says not orientable
-  open-former : (k : ℕ) → Free N n t k → formerOrientable N n t ≡ false
+  open-former : (k : ℕ) → Free Y N n t k → formerOrientable Y N n t ≡ false
   unfolding formerOrientable formerApart
-  open-former k F = go (formerOrientable N n t) refl
+  open-former k F = go (formerOrientable Y N n t) refl
     where
-      go : (b : Bool) → formerOrientable N n t ≡ b → b ≡ false
+      go : (b : Bool) → formerOrientable Y N n t ≡ b → b ≡ false
       go false e = refl
       go true e =
-          let (c, p) = some-classes n (formerApart N n t) e in
+          let (c, p) = some-classes n (formerApart Y N n t) e in
           let (hi, hd) = F .within in
-          let test : ℕ → Bool = λ k. differ (getD c (k % n) false) (getD c (link N n t (k / n) (k % n)) false) in
+          let test : ℕ → Bool = λ k. differ (getD c (k % n) false) (getD c (link Y N n t (k / n) (k % n)) false) in
           let q = rw (rank-nth n (F .rank) (F .dart) hd, dart-nth n (F .rank) (F .dart) hd, F .fixed)
           at (all-below (size N n) test p (F .rank * n + F .dart) (nth-below N n (F .rank) (F .dart) hi hd)) in
           absurd (not-both (differ (getD c (F .dart) false) (getD c (F .dart) false)) q (differ-own (getD c (F .dart) false)))
 
   -- no free pair is counted: no dart is free
-  none-free : freePairs N n t ≡ 0 → NoneFree N n t
+  none-free : freePairs Y N n t ≡ 0 → NoneFree Y N n t
   none-free z i d hi hd e =
-      let (l, P, q) = free-are N n t h1 .picked in
+      let (l, P, q) = free-are Y N n t h1 .picked in
       let (p, k, r) = P .all (i * n + d) (record { rank = i; dart = d; within = (hi, hd); pair = refl; fixed = e }) in
       omega arith
 
   -- document 01 says orientable exactly where the new rule does and no pair is free
-  pub former-exactly : formerOrientable N n t ≡ (eqb (freePairs N n t) 0 && orientable N n t)
-  former-exactly = go (ℕ-discrete (freePairs N n t) 0)
+  pub former-exactly : formerOrientable Y N n t ≡ (eqb (freePairs Y N n t) 0 && orientable Y N n t)
+  former-exactly = go (ℕ-discrete (freePairs Y N n t) 0)
     where
-      go : Dec (freePairs N n t ≡ 0) → formerOrientable N n t ≡ (eqb (freePairs N n t) 0 && orientable N n t)
-      go (yes z) = rw (eq-eqb (freePairs N n t) 0 z) (sym (closed-agree (none-free z)))
+      go : Dec (freePairs Y N n t ≡ 0) → formerOrientable Y N n t ≡ (eqb (freePairs Y N n t) 0 && orientable Y N n t)
+      go (yes z) = rw (eq-eqb (freePairs Y N n t) 0 z) (sym (closed-agree (none-free z)))
       go (no z) =
-          let (l, P, q) = free-are N n t h1 .picked in
-          rw (ne-eqb (freePairs N n t) 0 z) (open-former (getD l 0 0) (P .member 0 (omega arith)))
+          let (l, P, q) = free-are Y N n t h1 .picked in
+          rw (ne-eqb (freePairs Y N n t) 0 z) (open-former (getD l 0 0) (P .member 0 (omega arith)))
 
   -- a map that was orientable stays so
-  pub stays-orientable : formerOrientable N n t ≡ true → orientable N n t ≡ true
-  stays-orientable e = and-right (eqb (freePairs N n t) 0) (orientable N n t) (sym former-exactly ∙ e)
+  pub stays-orientable : formerOrientable Y N n t ≡ true → orientable Y N n t ≡ true
+  stays-orientable e = and-right (eqb (freePairs Y N n t) 0) (orientable Y N n t) (sym former-exactly ∙ e)
 
 -- the report as document 01 gives it: with a free pair it says not orientable
 unfoldable pub formerly : ReportAnswer → ReportAnswer
 formerly r = record { number = r .number; place = r .place; cells = r .cells; free = r .free; orientable = eqb (r .free) 0 && r .orientable }
 
-module _ (N n : ℕ) (t work : List ℕ) where
+module _ (Y : Layout) (N n : ℕ) (t work : List ℕ) where
   -- any tables: document 01's report is the present one, but for that
-  pub report-as-before : formerAnswer N n t work ≡ formerly (reportAnswer N n t work)
+  pub report-as-before : formerAnswer Y N n t work ≡ formerly (reportAnswer Y N n t work)
   unfolding formerAnswer formerAnswerOf formerly reportAnswer reportAnswerOf
-  report-as-before = go (verdict N n 0 t (length work)) refl
+  report-as-before = go (verdict Y N n 0 t (length work)) refl
     where
-      go : (v : Verdict) → verdict N n 0 t (length work) ≡ v → formerAnswerOf N n t v ≡ formerly (reportAnswerOf N n t v)
-      go Verdict.fine e = rw (former-exactly N n t (fine-passes N n 0 t (length work) e .limits .darts .0)) refl
+      go : (v : Verdict) → verdict Y N n 0 t (length work) ≡ v → formerAnswerOf Y N n t v ≡ formerly (reportAnswerOf Y N n t v)
+      go Verdict.fine e = rw (former-exactly Y N n t (fine-passes Y N n 0 t (length work) e .limits .darts .0)) refl
       go (Verdict.refused nr p) e = refl
 
   -- a closed model's report stays as it was
-  pub closed-as-before : NoneFree N n t → reportAnswer N n t work ≡ formerAnswer N n t work
+  pub closed-as-before : NoneFree Y N n t → reportAnswer Y N n t work ≡ formerAnswer Y N n t work
   unfolding formerAnswer formerAnswerOf reportAnswer reportAnswerOf
-  closed-as-before F = go (verdict N n 0 t (length work)) refl
+  closed-as-before F = go (verdict Y N n 0 t (length work)) refl
     where
-      go : (v : Verdict) → verdict N n 0 t (length work) ≡ v → reportAnswerOf N n t v ≡ formerAnswerOf N n t v
-      go Verdict.fine e = rw (closed-agree N n t (fine-passes N n 0 t (length work) e .limits .darts .0) F) refl
+      go : (v : Verdict) → verdict Y N n 0 t (length work) ≡ v → reportAnswerOf Y N n t v ≡ formerAnswerOf Y N n t v
+      go Verdict.fine e = rw (closed-agree Y N n t (fine-passes Y N n 0 t (length work) e .limits .darts .0) F) refl
       go (Verdict.refused nr p) e = refl
 
 -- one square, darts 2s and 2s+1 on side s: a0 and a1 are those of each square, a2 is given
@@ -137,6 +137,6 @@ pub moebiusBand : List ℕ
 moebiusBand = square (4 ∷ 5 ∷ 2 ∷ 3 ∷ 0 ∷ 1 ∷ 6 ∷ 7 ∷ [])
 
 -- the open square is orientable, where document 01 says that it is not; the Moebius band is not, though it is open
-pub square-and-band : (orientable 2 8 openSquare ≡ true) × (formerOrientable 2 8 openSquare ≡ false) × (orientable 2 8 moebiusBand ≡ false)
+pub square-and-band : (orientable byRank 2 8 openSquare ≡ true) × (formerOrientable byRank 2 8 openSquare ≡ false) × (orientable byRank 2 8 moebiusBand ≡ false)
 unfolding orientable formerOrientable apart formerApart crosses differ someClasses allBelow place link square openSquare moebiusBand
 square-and-band = (refl, refl, refl)

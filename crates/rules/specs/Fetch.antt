@@ -8,6 +8,7 @@ use Rattle.rules.specs.declared.Session.{Session}
 use Rattle.rules.specs.declared.State.{State}
 use Rattle.rules.specs.declared.State.the-variants.{Header, Running, Complete, Closed, Refused}
 use Rattle.rules.specs.declared.PageAnswer.{PageAnswer}
+use Rattle.rules.specs.Map.{Layout}
 use Rattle.rules.specs.Stream.{unpack, Taken, takeSymbol}
 use Rattle.rules.specs.Session.{waitingOf, fit, Left, page}
 
@@ -43,8 +44,8 @@ unfoldable pub fetching : Left → ℕ → PageLeft
 fetching l f = record { session = l .session; answer = record { reading = l .answer; fetch = f }; tables = l .tables }
 
 -- the page call: as it is in Session, with what the session wants that it leaves; 0 when unfit
-unfoldable pub pageCall : Session → List ℕ → List ℕ → PageLeft
-pageCall s bytes t = let l = page s bytes t in fetching l (cond (fit s t) (fetchOf (l .session)) 0)
+unfoldable pub pageCall : Layout → Session → List ℕ → List ℕ → PageLeft
+pageCall Y s bytes t = let l = page Y s bytes t in fetching l (cond (fit Y s t) (fetchOf (l .session)) 0)
 
 -- What the number is to say.
 
