@@ -2,8 +2,8 @@
  * kanzhulet.h: the surface for C of a proved library for generalised maps.
  *
  * A map of dimension N (1 to 6) has n darts (1 to 4,096), 0 to n-1, and N+1 links a0..aN for each dart. Its tables are
- * 16-bit numbers: ai(d) stands at position i*n + d. ai(d) = d says that dart d is free at rank i. In tables that are
- * being read, KZ_NO_LINK says "no link yet".
+ * 16-bit numbers, the links of a dart side by side: ai(d) stands at position d*(N+1) + i. ai(d) = d says that dart d is
+ * free at rank i. In tables that are being read, KZ_NO_LINK says "no link yet".
  *
  *   kz_check    are these posted tables a valid connected map? numbers the darts from a root
  *   kz_write    any page of a map's stream, from any root
@@ -37,7 +37,7 @@ extern "C" {
 #endif
 
 /* The library's version, as pkg-config and the Rust wrapper give it too. */
-#define KZ_VERSION "0.6.0"
+#define KZ_VERSION "0.7.0"
 
 /* The limits, and the rooms that are long enough for every map. */
 enum {
@@ -71,8 +71,8 @@ enum {
     KZ_SHORT_TABLES = 3,  /* tables shorter than (N+1)*n                        0 */
     KZ_SHORT_WORK = 4,    /* work room shorter than 2n                          0 */
     KZ_ROOT = 5,          /* root not below n                                   0 */
-    KZ_ENTRY = 6,         /* an entry not below n                               its position, the first such */
-    KZ_INVERSE = 7,       /* ai(ai(d)) is not d                                 the position of ai(d), the first such */
+    KZ_ENTRY = 6,         /* an entry not below n                               position, first by rank, then dart */
+    KZ_INVERSE = 7,       /* ai(ai(d)) is not d                                 the position of ai(d), in that order */
     KZ_MANIFOLD = 8,      /* ai, aj, ai, aj does not lead back (i+2 <= j)       the dart, first by pair, then dart */
     KZ_NOT_REACHED = 9,   /* a dart not reached from the root                   the least such dart */
     KZ_PAST_END = 10,     /* page start past the stream's end                   the stream's length */
@@ -94,7 +94,9 @@ enum {
 /*
  * The check of posted tables, from a root.
  *
- * answer: number, place. Order of tests: 1 to 9, each over the whole tables before the next.
+ * answer: number, place. Order of tests: 1 to 9, each over the whole tables before the next. 6 and 7 go through the
+ *         links rank by rank, in each rank dart by dart, and tell the first that fails: not always the one that stands
+ *         first in the tables.
  * tables: at least (N+1)*n entries; what is past them is not read. Never written.
  * work:   at least 2n entries; what is past them is neither read nor written.
  *   0        the first n hold each dart's walk number, the next n the dart of each walk number

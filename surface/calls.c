@@ -153,7 +153,7 @@ static void read_known_tables(void)
 {
     static const uint16_t p1[2] = { 0, 0 };
     static const uint16_t p2[4] = { 1, 0, 0, 1 };
-    static const uint16_t p3[12] = { 1, 0, 3, 2, 5, 4, 2, 4, 0, 5, 1, 3 };
+    static const uint16_t p3[12] = { 1, 2, 0, 4, 3, 0, 2, 5, 5, 1, 4, 3 };
     begin("tables of P1 to P3");
     expect_built("10 00 A0", 2, p1);
     expect_built("10 01 50", 4, p2);
@@ -397,17 +397,18 @@ static const struct lent unfit[] = {
     { "running, short tables", { 1, 0, 0, 1, 2, 1 }, 3, { NO, NO, NO } },
     { "count 0", { 1, 0, 0, 1, 2, 0 }, 4, { NO, NO, NO, NO } },
     { "count above n", { 1, 0, 0, 1, 2, 3 }, 4, { NO, NO, NO, NO } },
-    { "position above count", { 1, 0, 0, 1, 2, 1, 2 }, 4, { 0, 0, NO, NO } },
-    { "rising positions", { 1, 0, 0, 1, 2, 2, 1, 2 }, 4, { 1, 0, 1, 0 } },
+    { "position above count", { 1, 0, 0, 1, 2, 1, 2 }, 4, { 0, NO, 0, NO } },
+    { "rising positions", { 1, 0, 0, 1, 2, 2, 1, 2 }, 4, { 1, 1, 0, 0 } },
     { "position past N", { 1, 0, 0, 1, 2, 2, 2, 1, 1 }, 4, { 1, 0, 0, NO } },
     { "entry not below count", { 1, 0, 0, 1, 2, 1, 1, 0 }, 4, { 1, NO, NO, NO } },
     { "entry missing behind a position", { 1, 0, 0, 1, 2, 2, 1, 0 }, 4, { NO, NO, NO, NO } },
-    { "entry of a dart without number", { 1, 0, 0, 1, 2, 1, 0 }, 4, { NO, 0, NO, NO } },
-    { "next step known", { 1, 0, 0, 1, 2, 2, 1, 0 }, 4, { 1, 0, NO, NO } },
+    { "tables by rank", { 1, 0, 0, 1, 2, 2, 2, 0 }, 4, { 1, 0, NO, NO } },
+    { "entry of a dart without number", { 1, 0, 0, 1, 2, 1, 0 }, 4, { NO, NO, 0, NO } },
+    { "next step known", { 1, 0, 0, 1, 2, 2, 1, 0 }, 4, { 1, NO, 0, NO } },
     { "14 waiting bits", { 1, 0, 0, 1, 2, 1, 0, 0, 0, 0, 0, 0, 0, 14, 0x3000 }, 4, { NO, NO, NO, NO } },
     { "waiting bits of a whole symbol", { 1, 0, 0, 1, 2, 1, 0, 0, 0, 0, 0, 0, 0, 2, 2 }, 4, { NO, NO, NO, NO } },
     { "complete with a step left", { 2, 0, 0, 1, 2, 2, 2, 1 }, 4, { 1, 0, 0, NO } },
-    { "complete without its tables", { 2, 0, 0, 1, 2, 2, 2, 2 }, 4, { 1, 0, NO, NO } },
+    { "complete without its tables", { 2, 0, 0, 1, 2, 2, 2, 2 }, 4, { 1, NO, 0, NO } },
     { "complete with waiting bits", { 2, 0, 0, 1, 2, 2, 2, 2, 0, 0, 0, 0, 0, 1, 1 }, 4, { 1, 0, 0, 1 } },
 };
 
@@ -447,19 +448,29 @@ static void lent_refusals_and_closed_records(void)
     EXPECT(call_close(), KZ_CLOSED, 0);
 }
 
-/* A fit session that no reading could leave is carried on by the same rules: here a0 is not its own inverse, and
-   dimension 1 has no pair of ranks that the end could test. */
-static void lent_session_goes_on(void)
+/* A lent session of two darts goes on to its end with these bytes, and its tables are then the others. */
+static void expect_goes_on(const uint32_t *numbers, const uint16_t *tables, const char *hex, const uint16_t *after)
 {
-    static const uint32_t numbers[KZ_RECORD] = { 1, 0, 0, 1, 2, 2, 2, 1 };
-    static const uint16_t tables[4] = { 0, 0, 0, NO };
-    begin("lent session goes on");
     lend_record(numbers, 4, tables);
-    give("80");
+    give(hex);
     expect_reading(4, 1, 2);
-    CHECK(built[0] == 0 && built[1] == 0 && built[2] == 0 && built[3] == 1);
+    CHECK(same_entries(built, after, 4));
     call_close();
     expect_reading(4, 1, 2);
+}
+
+/* First a session between two ranks: a0 of both darts is known, a1 of none. Then a fit one that no reading could leave,
+   which is carried on by the same rules: its a0 is not its own inverse, and dimension 1 has no pair of ranks that the
+   end could test. */
+static void lent_session_goes_on(void)
+{
+    static const uint32_t rank_done[KZ_RECORD] = { 1, 0, 0, 1, 2, 2, 2, 0 };
+    static const uint32_t one_left[KZ_RECORD] = { 1, 0, 0, 1, 2, 2, 2, 1 };
+    static const uint16_t of_a_reading[2][4] = { { 1, NO, 0, NO }, { 1, 0, 0, 1 } };
+    static const uint16_t of_none[2][4] = { { 0, 0, 0, NO }, { 0, 0, 0, 1 } };
+    begin("lent session goes on");
+    expect_goes_on(rank_done, of_a_reading[0], "A0", of_a_reading[1]);
+    expect_goes_on(one_left, of_none[0], "80", of_none[1]);
 }
 
 /* How much to fetch. */
@@ -625,29 +636,47 @@ static void rooms_one_entry_short(void)
     all_refuse(m, 0, KZ_SHORT_TABLES, 0);
 }
 
+/* Spoils links of six free darts, from the last rank on, each of a later dart than the one before: the last one is the
+   first by rank, then dart, and is told, though it stands behind all others. Then one of its rank and an earlier
+   dart. */
+static void told_by_rank_then_dart(uint16_t entry, uint32_t number)
+{
+    static const uint32_t places[] = { 3, 6, 9, 16, 4 }; /* of a3(0), a2(1), a1(2), a0(4), a0(1) */
+    struct map m = post_free(3, 6);
+    size_t k;
+    for (k = 0; k < sizeof places / sizeof places[0]; k++) {
+        posted[places[k]] = entry;
+        all_refuse(m, 0, number, places[k]);
+        all_refuse(m, 5, number, places[k]);
+    }
+}
+
 static void entries_not_below_n(void)
 {
     struct map m;
     begin("entries not below n");
     m = triangle();
-    posted[11] = KZ_NO_LINK;
+    posted[11] = KZ_NO_LINK; /* a1(5) */
     all_refuse(m, 0, KZ_ENTRY, 11);
-    posted[4] = 6;
+    posted[4] = 6; /* a0(2) */
     all_refuse(m, 0, KZ_ENTRY, 4);
-    all_refuse(m, 5, KZ_ENTRY, 4);
+    told_by_rank_then_dart(6, KZ_ENTRY); /* there is no dart 6 */
 }
 
-/* The place is the first position that fails, not the entry one would mend. */
+/* The place is where the link stands that fails, not the entry one would mend. */
 static void links_not_their_own_inverse(void)
 {
     struct map m;
     begin("links not their own inverse");
     m = post_free(1, 2);
-    posted[0] = posted[1] = 1;
+    posted[0] = posted[2] = 1; /* a0 of both darts */
     all_refuse(m, 0, KZ_INVERSE, 0);
     m = triangle();
-    posted[6 + 3] = 0;
-    all_refuse(m, 0, KZ_INVERSE, 6 + 3);
+    posted[7] = 0; /* a1(3) */
+    all_refuse(m, 0, KZ_INVERSE, 7);
+    posted[10] = 3; /* a0(5), and a0(4) does not lead back */
+    all_refuse(m, 0, KZ_INVERSE, 8);
+    told_by_rank_then_dart(5, KZ_INVERSE); /* dart 5 stays free: no link to it leads back */
 }
 
 /* Ranks 0 and 3 break the condition at dart 4, ranks 1 and 3 at dart 0: the pair comes first, then the dart. */
@@ -692,9 +721,9 @@ static struct faulty post_faults(int mended)
     tie(f.m, 0, 4, 5);
     tie(f.m, 1, 1, 2);
     if (mended < 6)
-        posted[17] = 6;
+        posted[17] = 6; /* a2(5) */
     if (mended < 7)
-        posted[9] = 0;
+        posted[10] = 0; /* a1(3) */
     if (mended < 8)
         tie(f.m, 2, 2, 4);
     if (mended >= 9)
@@ -711,7 +740,7 @@ static struct faulty post_faults(int mended)
 /* Of several faults the first in the order is answered, each test covering the whole tables before the next. */
 static void first_fault_is_answered(void)
 {
-    static const uint32_t places[] = { 0, 0, 0, 0, 0, 17, 9, 2, 4 };
+    static const uint32_t places[] = { 0, 0, 0, 0, 0, 17, 10, 2, 4 };
     struct faulty f;
     uint32_t length;
     int mended;
@@ -824,7 +853,7 @@ static int built_under(struct map m, const uint16_t *numbers)
     uint64_t i, d;
     for (i = 0; i <= m.dim; i++)
         for (d = 0; d < m.darts; d++)
-            if (built[i * m.darts + numbers[d]] != numbers[posted[i * m.darts + d]])
+            if (built[position(m, i, numbers[d])] != numbers[posted[position(m, i, d)]])
                 return 0;
     return 1;
 }

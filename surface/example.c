@@ -8,18 +8,33 @@
 
 enum { DIM = 2, DARTS = 8, ENTRIES = (DIM + 1) * DARTS, PAGE = 4 };
 
-/* Darts 2s and 2s+1 are the two ends of side s. ai(d) stands at i*DARTS + d. */
+/*
+ * Darts 2s and 2s+1 are the two ends of side s. ai(d) stands at d*(DIM+1) + i, so a dart has three entries here:
+ *   a0: the other end of the side
+ *   a1: the side that meets it there
+ *   a2: the square across the side; there is none, so every dart is free at rank 2
+ */
 static const uint16_t square[ENTRIES] = {
-    1, 0, 3, 2, 5, 4, 7, 6, /* a0: the other end of the side */
-    7, 2, 1, 4, 3, 6, 5, 0, /* a1: the side that meets it there */
-    0, 1, 2, 3, 4, 5, 6, 7, /* a2: the square across the side: none, so every dart is free at rank 2 */
+    1, 7, 0, /* dart 0 */
+    0, 2, 1, /* dart 1, and so on */
+    3, 1, 2,
+    2, 4, 3,
+    5, 3, 4,
+    4, 6, 5,
+    7, 5, 6,
+    6, 0, 7,
 };
 
 /* The same square with side 0 joined to side 2, twisted: a Moebius band. Sides 1 and 3 stay free. */
 static const uint16_t band[ENTRIES] = {
-    1, 0, 3, 2, 5, 4, 7, 6,
-    7, 2, 1, 4, 3, 6, 5, 0,
-    4, 5, 2, 3, 0, 1, 6, 7,
+    1, 7, 4, /* darts 0 and 1: side 0 */
+    0, 2, 5,
+    3, 1, 2,
+    2, 4, 3,
+    5, 3, 0, /* darts 4 and 5: side 2 */
+    4, 6, 1,
+    7, 5, 6,
+    6, 0, 7,
 };
 
 static int refused(const uint32_t *answer)

@@ -13,6 +13,9 @@ enum { DIM = 6, DARTS = 4096, ENTRIES = (DIM + 1) * DARTS };
 static uint16_t map[ENTRIES], built[ENTRIES], work[2 * DARTS];
 static uint8_t stream[KZ_MAX_STREAM];
 
+/* Where ai(d) stands in both tables. */
+static unsigned position(unsigned rank, unsigned dart) { return dart * (DIM + 1) + rank; }
+
 /* a5 joins the pairs 2k and 2k+1, a6 the pairs 2k+1 and 2k+2; a6 joins a pair at an end of the path within. */
 static uint16_t along(unsigned rank, unsigned dart)
 {
@@ -25,9 +28,9 @@ static uint16_t along(unsigned rank, unsigned dart)
 
 static void post(void)
 {
-    for (unsigned i = 0; i <= DIM; i++)
-        for (unsigned d = 0; d < DARTS; d++)
-            map[i * DARTS + d] = i < 5 ? (uint16_t)(d ^ 1) : along(i, d);
+    for (unsigned d = 0; d < DARTS; d++)
+        for (unsigned i = 0; i <= DIM; i++)
+            map[position(i, d)] = i < 5 ? (uint16_t)(d ^ 1) : along(i, d);
 }
 
 static void print_stream(uint32_t length)
@@ -46,7 +49,7 @@ static int print_text(uint32_t length)
     for (unsigned d = 0; d < DARTS; d++) {
         printf("%u", d);
         for (unsigned i = 0; i <= DIM; i++)
-            printf(" %u", (unsigned)built[i * DARTS + d]);
+            printf(" %u", (unsigned)built[position(i, d)]);
         printf("\n");
     }
     printf("cells");

@@ -16,7 +16,7 @@ static struct map post_free(uint64_t dim, uint64_t darts)
     LEND(posted, entries + SPARE);
     LEND(work, 2 * darts + SPARE);
     for (k = 0; k < entries; k++)
-        posted[k] = (uint16_t)(k % darts);
+        posted[k] = (uint16_t)(k / (dim + 1));
     for (; k < entries + SPARE; k++)
         posted[k] = KZ_NO_LINK;
     return m;
@@ -24,8 +24,8 @@ static struct map post_free(uint64_t dim, uint64_t darts)
 
 static void tie(struct map m, uint64_t rank, uint64_t d, uint64_t e)
 {
-    posted[rank * m.darts + d] = (uint16_t)e;
-    posted[rank * m.darts + e] = (uint16_t)d;
+    posted[position(m, rank, d)] = (uint16_t)e;
+    posted[position(m, rank, e)] = (uint16_t)d;
 }
 
 /* Where place x of a path of this length goes: the even involution pairs 0-1, 2-3 and so on, the odd one 1-2, 3-4 and

@@ -286,10 +286,20 @@ static uint32_t dice(uint32_t sides_of_it)
 static void retie(struct map m)
 {
     uint64_t n = m.darts, i = dice((uint32_t)m.dim + 1), d = dice((uint32_t)n), e = dice((uint32_t)n);
-    uint16_t d_had = posted[i * n + d], e_had = posted[i * n + e];
+    uint16_t d_had = posted[position(m, i, d)], e_had = posted[position(m, i, e)];
     tie(m, i, d_had, d_had);
     tie(m, i, e_had, e_had);
     tie(m, i, d, e);
+}
+
+/* One to three entries get another number each: one of `count` from `least` on. */
+static void spoil_entries(struct map m, uint32_t least, uint32_t count)
+{
+    uint32_t k, at;
+    for (k = 1 + dice(3); k > 0; k--) {
+        at = dice((uint32_t)((m.dim + 1) * m.darts));
+        posted[at] = (uint16_t)(least + dice(count));
+    }
 }
 
 static void spoil_posting(struct posting *p)
@@ -299,8 +309,8 @@ static void spoil_posting(struct posting *p)
     case 0: p->root = dice(2 * (uint32_t)p->m.darts); break;
     case 1: p->work = dice(2 * (uint32_t)p->m.darts + 2); break;
     case 2: p->tables = dice(entries + 2); break;
-    case 3: posted[dice(entries)] = (uint16_t)(p->m.darts + dice(3)); break;
-    case 4: posted[dice(entries)] = (uint16_t)dice((uint32_t)p->m.darts); break;
+    case 3: spoil_entries(p->m, (uint32_t)p->m.darts, 3); break;
+    case 4: spoil_entries(p->m, 0, (uint32_t)p->m.darts); break;
     case 5: p->m.dim = dice(9); break;
     case 6: p->m.darts = dice(2) ? 0 : KZ_MAX_DARTS + 1 + dice(9); break;
     default: retie(p->m); break;

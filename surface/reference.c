@@ -5,7 +5,7 @@ enum { NO_LINK = 65535, MAX_STREAM = 50178 };
 
 enum { CHECK_ANSWER = 2, WRITE_ANSWER = 4, READ_ANSWER = 5, PAGE_ANSWER = 6, REPORT_ANSWER = 11 };
 
-/* A map, posted or built. ai(d) stands at links[i * darts + d]. */
+/* A map, posted or built. */
 struct map {
     uint32_t dim, darts;
     const uint16_t *links;
@@ -17,9 +17,20 @@ struct fault {
 
 static const struct fault no_fault = { 0, 0 };
 
-static const uint16_t *links_of_rank(const struct map *map, uint32_t rank)
+/* Where ai(d) stands in the tables: a dart's links side by side. */
+static uint32_t position(uint32_t dim, uint32_t rank, uint32_t dart)
 {
-    return map->links + rank * map->darts;
+    return dart * (dim + 1) + rank;
+}
+
+static uint32_t link_of(const struct map *map, uint32_t rank, uint32_t dart)
+{
+    return map->links[position(map->dim, rank, dart)];
+}
+
+static const uint16_t *links_of_dart(const struct map *map, uint32_t dart)
+{
+    return map->links + position(map->dim, 0, dart);
 }
 
 /* An answer of which only number and place are not 0. */
@@ -101,31 +112,32 @@ static struct fault test_numbers(uint64_t dim, uint64_t darts, uint64_t root, si
     return fault;
 }
 
+/* 6 and 7 are searched rank by rank, in each rank dart by dart. */
+
 static struct fault test_entries(const struct map *map)
 {
-    for (uint32_t p = 0; p < (map->dim + 1) * map->darts; p++)
-        if (map->links[p] >= map->darts)
-            return (struct fault){ 6, p };
+    for (uint32_t i = 0; i <= map->dim; i++)
+        for (uint32_t d = 0; d < map->darts; d++)
+            if (link_of(map, i, d) >= map->darts)
+                return (struct fault){ 6, position(map->dim, i, d) };
     return no_fault;
 }
 
 static struct fault test_inverse(const struct map *map)
 {
-    for (uint32_t i = 0; i <= map->dim; i++) {
-        const uint16_t *ai = links_of_rank(map, i);
+    for (uint32_t i = 0; i <= map->dim; i++)
         for (uint32_t d = 0; d < map->darts; d++)
-            if (ai[ai[d]] != d)
-                return (struct fault){ 7, i * map->darts + d };
-    }
+            if (link_of(map, i, link_of(map, i, d)) != d)
+                return (struct fault){ 7, position(map->dim, i, d) };
     return no_fault;
 }
 
 static struct fault test_manifold(const struct map *map)
 {
     for (int k = 0; k < PAIRS && pairs[k].j <= map->dim; k++) {
-        const uint16_t *ai = links_of_rank(map, pairs[k].i), *aj = links_of_rank(map, pairs[k].j);
+        uint32_t i = pairs[k].i, j = pairs[k].j;
         for (uint32_t d = 0; d < map->darts; d++)
-            if (aj[ai[aj[ai[d]]]] != d)
+            if (link_of(map, j, link_of(map, i, link_of(map, j, link_of(map, i, d)))) != d)
                 return (struct fault){ 8, d };
     }
     return no_fault;
@@ -177,7 +189,7 @@ static void end_stream(struct stream *stream)
 
 struct walk {
     struct ref_queue queues[REF_RANKS];
-    uint8_t known[REF_RANKS * REF_DARTS]; /* by rank, then dart, as the links */
+    uint8_t known[REF_RANKS * REF_DARTS]; /* by rank, then dart */
     uint16_t *number_of, *dart_of;        /* walk number of a dart, dart of a walk number */
     uint32_t count;                       /* darts that have a walk number */
     struct stream *stream;                /* for the symbols; none for the check */
@@ -213,8 +225,9 @@ static void tell_link(struct walk *walk, uint32_t dart, uint32_t partner)
 /* Is the link of rank j known for some ai(dart), i <= j-2? */
 static int deducible(const struct map *map, const uint8_t *known, uint32_t j, uint32_t dart)
 {
+    const uint16_t *links = links_of_dart(map, dart);
     for (uint32_t i = 0; i + 2 <= j; i++)
-        if (known[links_of_rank(map, i)[dart]])
+        if (known[links[i]])
             return 1;
     return 0;
 }
@@ -223,7 +236,7 @@ static void step(const struct map *map, struct walk *walk, uint32_t j)
 {
     uint8_t *known = walk->known + j * map->darts;
     uint32_t dart = walk->dart_of[head_of(&walk->queues[j])];
-    uint32_t partner = links_of_rank(map, j)[dart];
+    uint32_t partner = link_of(map, j, dart);
     if (!known[dart]) {
         if (!deducible(map, known, j, dart))
             tell_link(walk, dart, partner);
@@ -358,7 +371,8 @@ static uint32_t read_new(struct ref_session *session, uint32_t *partner)
     return DONE;
 }
 
-static uint32_t read_named(struct ref_session *session, const uint16_t *aj, uint32_t b, uint32_t *partner)
+static uint32_t read_named(struct ref_session *session, const struct map *map, uint32_t j, uint32_t b,
+                           uint32_t *partner)
 {
     *partner = first_bits(session, 14) & 4095;
     drop_bits(session, 14);
@@ -366,12 +380,12 @@ static uint32_t read_named(struct ref_session *session, const uint16_t *aj, uint
         return 21;
     if (*partner == b)
         return 22;
-    return aj[*partner] == NO_LINK ? DONE : 23;
+    return link_of(map, j, *partner) == NO_LINK ? DONE : 23;
 }
 
 /* The symbol for aj(b). */
-static uint32_t read_symbol(struct ref_session *session, struct page *page, const uint16_t *aj, uint32_t b,
-                            uint32_t *partner)
+static uint32_t read_symbol(struct ref_session *session, struct page *page, const struct map *map, uint32_t j,
+                            uint32_t b, uint32_t *partner)
 {
     if (!have_bits(session, page, 1))
         return WAITS;
@@ -386,35 +400,34 @@ static uint32_t read_symbol(struct ref_session *session, struct page *page, cons
     }
     if (!have_bits(session, page, 14))
         return WAITS;
-    return read_named(session, aj, b, partner);
+    return read_named(session, map, j, b, partner);
 }
 
 /* The partner aj(b) that a lower rank gives or else a symbol. */
-static uint32_t find_partner(struct ref_session *session, struct page *page, const uint16_t *tables, uint32_t j,
+static uint32_t find_partner(struct ref_session *session, struct page *page, const struct map *map, uint32_t j,
                              uint32_t b, uint32_t *partner)
 {
-    const uint16_t *aj = tables + j * session->darts;
+    const uint16_t *links = links_of_dart(map, b);
     for (uint32_t i = 0; i + 2 <= j; i++) {
-        const uint16_t *ai = tables + i * session->darts;
-        uint32_t across = aj[ai[b]];
+        uint32_t across = link_of(map, j, links[i]);
         if (across != NO_LINK) {
-            *partner = ai[across];
-            return aj[*partner] == NO_LINK ? DONE : 14;
+            *partner = link_of(map, i, across);
+            return link_of(map, j, *partner) == NO_LINK ? DONE : 14;
         }
     }
-    return read_symbol(session, page, aj, b, partner);
+    return read_symbol(session, page, map, j, b, partner);
 }
 
 static uint32_t read_step(struct ref_session *session, struct page *page, uint16_t *tables, uint32_t j)
 {
-    uint16_t *aj = tables + j * session->darts;
+    struct map map = { session->dim, session->darts, tables };
     uint32_t b = head_of(&session->queues[j]), partner, outcome;
-    if (aj[b] == NO_LINK) {
-        outcome = find_partner(session, page, tables, j, b, &partner);
+    if (link_of(&map, j, b) == NO_LINK) {
+        outcome = find_partner(session, page, &map, j, b, &partner);
         if (outcome != DONE)
             return outcome;
-        aj[b] = (uint16_t)partner;
-        aj[partner] = (uint16_t)b;
+        tables[position(map.dim, j, b)] = (uint16_t)partner;
+        tables[position(map.dim, j, partner)] = (uint16_t)b;
     }
     pass_on(session->queues, j, session->dim);
     session->steps++;
@@ -611,8 +624,9 @@ static void flood_cell(const struct map *map, uint32_t left_out, uint32_t from, 
     reach(flood, from, 1);
     while (flood->height > 0) {
         uint32_t dart = flood->stack[--flood->height];
+        const uint16_t *links = links_of_dart(map, dart);
         for (uint32_t i = 0; i <= map->dim; i++) {
-            uint32_t partner = links_of_rank(map, i)[dart];
+            uint32_t partner = links[i];
             if (i != left_out && flood->mark[partner] == 0)
                 reach(flood, partner, 1);
         }
@@ -640,8 +654,9 @@ static uint32_t two_classes(const struct map *map, struct flood *flood)
     reach(flood, 0, 1);
     while (flood->height > 0) {
         uint32_t dart = flood->stack[--flood->height];
+        const uint16_t *links = links_of_dart(map, dart);
         for (uint32_t i = 0; i <= map->dim; i++) {
-            uint32_t partner = links_of_rank(map, i)[dart];
+            uint32_t partner = links[i];
             if (flood->mark[partner] == 0)
                 reach(flood, partner, 3 - flood->mark[dart]);
             else if (partner != dart && flood->mark[partner] == flood->mark[dart])
@@ -656,7 +671,7 @@ static uint32_t count_free(const struct map *map)
     uint32_t count = 0;
     for (uint32_t i = 0; i <= map->dim; i++)
         for (uint32_t d = 0; d < map->darts; d++)
-            count += links_of_rank(map, i)[d] == d;
+            count += link_of(map, i, d) == d;
     return count;
 }
 

@@ -162,6 +162,12 @@ struct map {
     uint64_t dim, darts;
 };
 
+/* Where ai(d) stands in the map's tables. */
+static uint64_t position(struct map m, uint64_t rank, uint64_t dart)
+{
+    return dart * (m.dim + 1) + rank;
+}
+
 static void before_call(void)
 {
     int k;

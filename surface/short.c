@@ -3,7 +3,7 @@
 
 int main(void)
 {
-    uint16_t posted[] = { 1, 0, 0, 1 }, work[4], tables[4]; /* one edge, N = 1, n = 2: a0 of both ends, then a1 */
+    uint16_t posted[] = { 1, 0, 0, 1 }, work[4], tables[4]; /* one edge, N = 1, n = 2: a0 and a1 of each end */
     uint32_t record[KZ_RECORD], sent[KZ_WRITE_ANSWER], got[KZ_PAGE_ANSWER];
     uint8_t page[64];
     kz_write(1, 2, 0, 0, posted, 4, work, 4, page, sizeof page, sent); /* the server: from root 0, from byte 0 on */

@@ -6,8 +6,8 @@
  * A file's name says what its lines are; `kinds` has the names. For each file this is printed, and the exit status is
  * 0 only if every file could be read and had cases, of which none differs:
  *
- *   reading.txt: 1250 cases, 0 differ
- *     met 0:327 1:37 3:138 11:173 13:143 14:33 15:30 16:63 17:29 18:79 21:125 22:36 23:37
+ *   reading.txt: 1249 cases, 0 differ
+ *     met 0:347 1:36 3:134 11:190 13:126 14:33 15:26 16:63 17:30 18:77 21:113 22:35 23:39
  *
  * `met` counts the cases by the number that the library answered. What differs and what cannot be read follows, the
  * first ten in words. The last line counts, over all files, every call by its number, where a case may make many:

@@ -5,7 +5,7 @@ use mathlib.Core.Bool.{Bool, not, cond}
 use lib.ListN.{getD}
 use lib.Dec.{eqb, ltb}
 use Rattle.rules.specs.Lists.{first}
-use Rattle.rules.specs.Map.{byRank, mark, dimFits, dartsFit, size, pairsOf, firstBroken}
+use Rattle.rules.specs.Map.{byDart, mark, dimFits, dartsFit, size, pairsOf, firstBroken}
 use Rattle.rules.specs.Check.{spot, outside, twisted}
 use Rattle.rules.specs.declared.CheckAnswer.{CheckAnswer}
 
@@ -21,11 +21,11 @@ misfitOf N n root t room =
 -- refusals 6 to 8 with their place, or number 0
 unfoldable pub misbuiltOf : ℕ → ℕ → List ℕ → CheckAnswer
 misbuiltOf N n t =
-    let p6 = first (outside byRank N n t) (size N n) in
-    let p7 = first (twisted byRank N n t) (size N n) in
-    let p8 = firstBroken byRank N n t (pairsOf N) in
-    cond (ltb p6 (size N n)) (record { number = 6; place = spot byRank N n p6 }) (
-    cond (ltb p7 (size N n)) (record { number = 7; place = spot byRank N n p7 }) (
+    let p6 = first (outside byDart N n t) (size N n) in
+    let p7 = first (twisted byDart N n t) (size N n) in
+    let p8 = firstBroken byDart N n t (pairsOf N) in
+    cond (ltb p6 (size N n)) (record { number = 6; place = spot byDart N n p6 }) (
+    cond (ltb p7 (size N n)) (record { number = 7; place = spot byDart N n p7 }) (
     cond (ltb p8 n) (record { number = 8; place = p8 }) (
     record { number = 0; place = 0 })))
 

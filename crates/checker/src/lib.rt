@@ -5,7 +5,7 @@ ghost use mathlib.Core.Path.{_≡_};
 ghost use Prim.Native.Nat.{_≤_};
 ghost use lib.ListN.{length};
 ghost use Rattle.rules.specs.Lists.{first};
-ghost use Rattle.rules.specs.Map.{byRank, Limits};
+ghost use Rattle.rules.specs.Map.{byDart, Limits};
 ghost use Rattle.rules.specs.Check.{checkAnswer, checkWork};
 ghost use Rattle.checker.specs.Parts.{numberless, misfitOf, misbuiltOf};
 
@@ -52,8 +52,8 @@ pub fn misfit(dim: usize, darts: usize, root: usize, tables: usize, work: usize)
     0
 }
 
-// Refusals 6 to 8, or number 0.
-pub fn misbuilt(tables: &[u16], dim: usize, darts: usize) -> CheckAnswer
+// The first of refusals 6 to 8 in the stated order, or number 0.
+pub fn first_misbuilt(tables: &[u16], dim: usize, darts: usize) -> CheckAnswer
     requires { ⌜ Limits dim darts (now tables) ⌝ }
     ensures { λ r. ⌜ r ≡ misbuiltOf dim darts (now (tables .entry)) ⌝ }
 {
@@ -86,10 +86,25 @@ pub fn misbuilt(tables: &[u16], dim: usize, darts: usize) -> CheckAnswer
     }
 }
 
+// Refusals 6 to 8, or number 0. One pass over the darts tells that there is none; only where it finds something is the
+// first place sought.
+pub fn misbuilt(tables: &[u16], dim: usize, darts: usize) -> CheckAnswer
+    requires { ⌜ Limits dim darts (now tables) ⌝ }
+    ensures { λ r. ⌜ r ≡ misbuiltOf dim darts (now (tables .entry)) ⌝ }
+{
+    if tables::all_sound(tables, dim, darts) {
+        return CheckAnswer {
+            number: 0,
+            place: 0,
+        };
+    }
+    first_misbuilt(tables, dim, darts)
+}
+
 // The check of posted tables.
 pub fn check(dim: usize, darts: usize, root: usize, tables: &[u16], work: &mut [u16]) -> CheckAnswer
-    ensures { λ r. ⌜ (r ≡ checkAnswer byRank dim darts root (now (tables .entry)) (now (work .entry)))
-        × (now (work .exit) ≡ checkWork byRank dim darts root (now (tables .entry)) (now (work .entry))) ⌝ }
+    ensures { λ r. ⌜ (r ≡ checkAnswer byDart dim darts root (now (tables .entry)) (now (work .entry)))
+        × (now (work .exit) ≡ checkWork byDart dim darts root (now (tables .entry)) (now (work .entry))) ⌝ }
 {
     let first = misfit(dim, darts, root, tables.len(), work.len());
     if first != 0 {

@@ -4,15 +4,15 @@ ghost use mathlib.Core.Path.{_≡_};
 ghost use Prim.Native.Nat.{_+_, _*_, _≤_, _<_};
 ghost use lib.ListN.{length, drop};
 ghost use Rattle.rules.specs.Lists.{countBelow};
-ghost use Rattle.rules.specs.Map.{byRank, Limits, Valid};
+ghost use Rattle.rules.specs.Map.{byDart, Limits, Valid};
 ghost use Rattle.rules.specs.Report.{cellCounts, freePairs};
 ghost use Rattle.counts.specs.Tests.{isFree};
 
 // The number of cells of a rank: a flood from each dart that none before it reached, until the queue holds all darts.
 pub fn cells(tables: &[u16], work: &mut [u16], dim: usize, darts: usize, skip: usize) -> u32
-    requires { ⌜ Limits dim darts (now tables) × Valid byRank dim darts (now tables) × (2 * darts ≤ length (now work))
+    requires { ⌜ Limits dim darts (now tables) × Valid byDart dim darts (now tables) × (2 * darts ≤ length (now work))
         × (skip ≤ dim) ⌝ }
-    ensures { λ r. ⌜ (r ≡ Rattle.rules.specs.Report.cells byRank dim darts (now (tables .entry)) skip)
+    ensures { λ r. ⌜ (r ≡ Rattle.rules.specs.Report.cells byDart dim darts (now (tables .entry)) skip)
         × (drop (2 * darts) (now (work .exit)) ≡ drop (2 * darts) (now (work .entry))) ⌝ }
 {
     tables::blank(work, darts);
@@ -32,9 +32,9 @@ pub fn cells(tables: &[u16], work: &mut [u16], dim: usize, darts: usize, skip: u
 
 // The number of cells of each rank; past N it is 0. That of rank N is given.
 pub fn cell_counts(tables: &[u16], work: &mut [u16], dim: usize, darts: usize, top: u32) -> [u32; 7]
-    requires { ⌜ Limits dim darts (now tables) × Valid byRank dim darts (now tables) × (2 * darts ≤ length (now work))
-        × (top ≡ Rattle.rules.specs.Report.cells byRank dim darts (now tables) dim) ⌝ }
-    ensures { λ r. ⌜ (r ≡ cellCounts byRank dim darts (now (tables .entry)))
+    requires { ⌜ Limits dim darts (now tables) × Valid byDart dim darts (now tables) × (2 * darts ≤ length (now work))
+        × (top ≡ Rattle.rules.specs.Report.cells byDart dim darts (now tables) dim) ⌝ }
+    ensures { λ r. ⌜ (r ≡ cellCounts byDart dim darts (now (tables .entry)))
         × (drop (2 * darts) (now (work .exit)) ≡ drop (2 * darts) (now (work .entry))) ⌝ }
 {
     let mut counts = [0u32; 7];
@@ -47,8 +47,8 @@ pub fn cell_counts(tables: &[u16], work: &mut [u16], dim: usize, darts: usize, t
     counts
 }
 
-// The number of free pairs of one rank. A count of 16 bits and no way out of the loop let the compiler take several
-// darts at a time.
+// The number of free pairs of one rank. A count and no way out of the loop let the compiler go over the darts without a
+// branch.
 pub fn free_at(tables: &[u16], dim: usize, darts: usize, rank: usize) -> u16
     requires { ⌜ Limits dim darts (now tables) × (rank ≤ dim) ⌝ }
     ensures { λ r. ⌜ r ≡ countBelow darts (λ d. isFree dim darts (now (tables .entry)) (rank * darts + d)) ⌝ }
@@ -67,7 +67,7 @@ pub fn free_at(tables: &[u16], dim: usize, darts: usize, rank: usize) -> u16
 // The number of free (rank, dart) pairs.
 pub fn free_pairs(tables: &[u16], dim: usize, darts: usize) -> u32
     requires { ⌜ Limits dim darts (now tables) ⌝ }
-    ensures { λ r. ⌜ r ≡ freePairs byRank dim darts (now (tables .entry)) ⌝ }
+    ensures { λ r. ⌜ r ≡ freePairs byDart dim darts (now (tables .entry)) ⌝ }
 {
     let mut free: u32 = 0;
     let mut rank = 0;

@@ -4,7 +4,7 @@ use Prim.Native.Nat.{ℕ}
 use mathlib.Core.Path.{_≡_, ap, sym, _∙_}
 use mathlib.Core.List.{List}
 use lib.ListN.{getD}
-use Rattle.rules.specs.Map.{byRank}
+use Rattle.rules.specs.Map.{byDart}
 use Rattle.rules.specs.Check.{checkAnswer, checkWork}
 use Rattle.rules.specs.Reading.{readAnswer, readTables}
 use Rattle.rules.specs.Report.{reportAnswer, reportWork}
@@ -16,28 +16,30 @@ use Rattle.stored.specs.Layout.{storedSession}
 use Rattle.exchange.specs.Rooms.{Lent, lent, pageLent, closeLent}
 
 pub one-kz-check : (N n root : ℕ) (t work : List ℕ) (r r' : ℕ) (a a' u u' : List ℕ)
-    → (r ≡ checkAnswer byRank N n root t work .number) × (a ≡ checkNumbers (checkAnswer byRank N n root t work)) × (u ≡ checkWork byRank N n root t work)
-    → (r' ≡ checkAnswer byRank N n root t work .number) × (a' ≡ checkNumbers (checkAnswer byRank N n root t work)) × (u' ≡ checkWork byRank N n root t work)
+    → (r ≡ checkAnswer byDart N n root t work .number) × (a ≡ checkNumbers (checkAnswer byDart N n root t work)) × (u ≡ checkWork byDart N n root t work)
+    → (r' ≡ checkAnswer byDart N n root t work .number) × (a' ≡ checkNumbers (checkAnswer byDart N n root t work)) × (u' ≡ checkWork byDart N n root t work)
     → (r ≡ r') × (a ≡ a') × (u ≡ u')
 one-kz-check N n root t work r r' a a' u u' (p, q, s) (p', q', s') = (one-value _ _ _ p p', one-value _ _ _ q q', one-value _ _ _ s s')
 
 pub one-kz-write : (N n root start : ℕ) (t work out : List ℕ) (r r' : ℕ) (a a' u u' o o' : List ℕ)
-    → (r ≡ writeAnswer byRank N n root start t work out .number) × (a ≡ writeNumbers (writeAnswer byRank N n root start t work out))
-    × (u ≡ writeWork byRank N n root t work) × (o ≡ writeOut byRank N n root start t work out)
-    → (r' ≡ writeAnswer byRank N n root start t work out .number) × (a' ≡ writeNumbers (writeAnswer byRank N n root start t work out))
-    × (u' ≡ writeWork byRank N n root t work) × (o' ≡ writeOut byRank N n root start t work out)
+    → (r ≡ writeAnswer byDart N n root start t work out .number) × (a ≡ writeNumbers (writeAnswer byDart N n root start t work out))
+    × (u ≡ writeWork byDart N n root t work) × (o ≡ writeOut byDart N n root start t work out)
+    → (r' ≡ writeAnswer byDart N n root start t work out .number) × (a' ≡ writeNumbers (writeAnswer byDart N n root start t work out))
+    × (u' ≡ writeWork byDart N n root t work) × (o' ≡ writeOut byDart N n root start t work out)
     → (r ≡ r') × (a ≡ a') × (u ≡ u') × (o ≡ o')
 one-kz-write N n root start t work out r r' a a' u u' o o' (p, q, s, z) (p', q', s', z') =
     (one-value _ _ _ p p', one-value _ _ _ q q', one-value _ _ _ s s', one-value _ _ _ z z')
 
 pub one-kz-read : (bytes t : List ℕ) (r r' : ℕ) (a a' u u' : List ℕ)
-    → (r ≡ readAnswer byRank bytes t .number) × (a ≡ readNumbers (readAnswer byRank bytes t)) × (u ≡ readTables byRank bytes t)
-    → (r' ≡ readAnswer byRank bytes t .number) × (a' ≡ readNumbers (readAnswer byRank bytes t)) × (u' ≡ readTables byRank bytes t) → (r ≡ r') × (a ≡ a') × (u ≡ u')
+    → (r ≡ readAnswer byDart bytes t .number) × (a ≡ readNumbers (readAnswer byDart bytes t)) × (u ≡ readTables byDart bytes t)
+    → (r' ≡ readAnswer byDart bytes t .number) × (a' ≡ readNumbers (readAnswer byDart bytes t)) × (u' ≡ readTables byDart bytes t)
+    → (r ≡ r') × (a ≡ a') × (u ≡ u')
 one-kz-read bytes t r r' a a' u u' (p, q, s) (p', q', s') = (one-value _ _ _ p p', one-value _ _ _ q q', one-value _ _ _ s s')
 
 pub one-kz-report : (N n : ℕ) (t work : List ℕ) (r r' : ℕ) (a a' u u' : List ℕ)
-    → (r ≡ reportAnswer byRank N n t work .number) × (a ≡ reportNumbers (reportAnswer byRank N n t work)) × (u ≡ reportWork byRank N n t work)
-    → (r' ≡ reportAnswer byRank N n t work .number) × (a' ≡ reportNumbers (reportAnswer byRank N n t work)) × (u' ≡ reportWork byRank N n t work) → (r ≡ r') × (a ≡ a') × (u ≡ u')
+    → (r ≡ reportAnswer byDart N n t work .number) × (a ≡ reportNumbers (reportAnswer byDart N n t work)) × (u ≡ reportWork byDart N n t work)
+    → (r' ≡ reportAnswer byDart N n t work .number) × (a' ≡ reportNumbers (reportAnswer byDart N n t work)) × (u' ≡ reportWork byDart N n t work)
+    → (r ≡ r') × (a ≡ a') × (u ≡ u')
 one-kz-report N n t work r r' a a' u u' (p, q, s) (p', q', s') = (one-value _ _ _ p p', one-value _ _ _ q q', one-value _ _ _ s s')
 
 pub one-kz-open : (k k' : List ℕ) → k ≡ storedSession opened → k' ≡ storedSession opened → k ≡ k'

@@ -2,7 +2,7 @@
 use Prim.Native.Nat.{ℕ}
 use mathlib.Core.List.{List}
 use mathlib.Core.Bool.{Bool, true, false}
-use Rattle.rules.specs.Map.{byRank}
+use Rattle.rules.specs.Map.{byDart}
 use Rattle.rules.specs.declared.Session.{Session}
 use Rattle.rules.specs.Reading.{plainAnswer}
 use Rattle.rules.specs.Session.{Left, close}
@@ -39,8 +39,8 @@ called f unfit r t = ifStanding (standing r) (lent r unfit t) (f (sessionBy r))
 
 -- the page call on a stored session
 unfoldable pub pageLent : List ℕ → List ℕ → List ℕ → Lent
-pageLent r bytes t = called (λ s. pageStored (pageCall byRank s bytes t)) (pageNumbers (record { reading = plainAnswer 19 0; fetch = 0 })) r t
+pageLent r bytes t = called (λ s. pageStored (pageCall byDart s bytes t)) (pageNumbers (record { reading = plainAnswer 19 0; fetch = 0 })) r t
 
 -- the close call on a stored session
 unfoldable pub closeLent : List ℕ → List ℕ → Lent
-closeLent r t = called (λ s. stored (close byRank s t)) (readNumbers (plainAnswer 19 0)) r t
+closeLent r t = called (λ s. stored (close byDart s t)) (readNumbers (plainAnswer 19 0)) r t

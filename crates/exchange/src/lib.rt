@@ -6,7 +6,7 @@ use stored::ReadRoom;
 use stored::Record;
 ghost use mathlib.Core.Path.{_≡_};
 ghost use lib.ListN.{getD};
-ghost use Rattle.rules.specs.Map.{byRank};
+ghost use Rattle.rules.specs.Map.{byDart};
 ghost use Rattle.rules.specs.Check.{checkAnswer, checkWork};
 ghost use Rattle.rules.specs.Writing.{writeAnswer, writeWork, writeOut};
 ghost use Rattle.rules.specs.Reading.{readAnswer, readTables};
@@ -26,9 +26,10 @@ pub extern "C" fn kz_check(
     work: &mut [u16],
     answer: &mut [u32; 2],
 ) -> u32
-    ensures { λ r. ⌜ (r ≡ checkAnswer byRank dim darts root (now (tables .entry)) (now (work .entry)) .number)
-        × (now (answer .exit) ≡ checkNumbers (checkAnswer byRank dim darts root (now (tables .entry)) (now (work .entry))))
-        × (now (work .exit) ≡ checkWork byRank dim darts root (now (tables .entry)) (now (work .entry))) ⌝ }
+    ensures { λ r. ⌜ (r ≡ checkAnswer byDart dim darts root (now (tables .entry)) (now (work .entry)) .number)
+        × (now (answer .exit)
+        ≡ checkNumbers (checkAnswer byDart dim darts root (now (tables .entry)) (now (work .entry))))
+        × (now (work .exit) ≡ checkWork byDart dim darts root (now (tables .entry)) (now (work .entry))) ⌝ }
 {
     let a = checker::check(dim as usize, darts as usize, root as usize, tables, work);
     *answer = [a.number, a.place];
@@ -48,12 +49,13 @@ pub extern "C" fn kz_write(
     answer: &mut [u32; 4],
 ) -> u32
     ensures { λ r. ⌜ (r
-        ≡ writeAnswer byRank dim darts root start (now (tables .entry)) (now (work .entry)) (now (out .entry)) .number)
+        ≡ writeAnswer byDart dim darts root start (now (tables .entry)) (now (work .entry)) (now (out .entry)) .number)
         × (now (answer .exit)
-        ≡ writeNumbers (writeAnswer byRank dim darts root start (now (tables .entry)) (now (work .entry)) (now (out .entry))))
-        × (now (work .exit) ≡ writeWork byRank dim darts root (now (tables .entry)) (now (work .entry)))
+        ≡ writeNumbers
+        (writeAnswer byDart dim darts root start (now (tables .entry)) (now (work .entry)) (now (out .entry))))
+        × (now (work .exit) ≡ writeWork byDart dim darts root (now (tables .entry)) (now (work .entry)))
         × (now (out .exit)
-        ≡ writeOut byRank dim darts root start (now (tables .entry)) (now (work .entry)) (now (out .entry))) ⌝ }
+        ≡ writeOut byDart dim darts root start (now (tables .entry)) (now (work .entry)) (now (out .entry))) ⌝ }
 {
     let a = writer::write(
         dim as usize,
@@ -71,9 +73,9 @@ pub extern "C" fn kz_write(
 // One whole read.
 #[no_mangle]
 pub extern "C" fn kz_read(bytes: &[u8], tables: &mut [u16], answer: &mut ReadRoom) -> u32
-    ensures { λ r. ⌜ (r ≡ readAnswer byRank (now (bytes .entry)) (now (tables .entry)) .number)
-        × (now (answer .exit) ≡ readNumbers (readAnswer byRank (now (bytes .entry)) (now (tables .entry))))
-        × (now (tables .exit) ≡ readTables byRank (now (bytes .entry)) (now (tables .entry))) ⌝ }
+    ensures { λ r. ⌜ (r ≡ readAnswer byDart (now (bytes .entry)) (now (tables .entry)) .number)
+        × (now (answer .exit) ≡ readNumbers (readAnswer byDart (now (bytes .entry)) (now (tables .entry))))
+        × (now (tables .exit) ≡ readTables byDart (now (bytes .entry)) (now (tables .entry))) ⌝ }
 {
     let a = reader::read(bytes, tables);
     *answer = stored::read_numbers(a);
@@ -143,9 +145,9 @@ pub extern "C" fn kz_report(
     work: &mut [u16],
     answer: &mut [u32; 11],
 ) -> u32
-    ensures { λ r. ⌜ (r ≡ reportAnswer byRank dim darts (now (tables .entry)) (now (work .entry)) .number)
-        × (now (answer .exit) ≡ reportNumbers (reportAnswer byRank dim darts (now (tables .entry)) (now (work .entry))))
-        × (now (work .exit) ≡ reportWork byRank dim darts (now (tables .entry)) (now (work .entry))) ⌝ }
+    ensures { λ r. ⌜ (r ≡ reportAnswer byDart dim darts (now (tables .entry)) (now (work .entry)) .number)
+        × (now (answer .exit) ≡ reportNumbers (reportAnswer byDart dim darts (now (tables .entry)) (now (work .entry))))
+        × (now (work .exit) ≡ reportWork byDart dim darts (now (tables .entry)) (now (work .entry))) ⌝ }
 {
     let a = report::report(dim as usize, darts as usize, tables, work);
     *answer = stored::report_numbers(a);

@@ -3,14 +3,13 @@ use Prim.Native.Nat.{ℕ, _≤_, _<_}
 use mathlib.Core.Path.{_≡_, ap, sym}
 use mathlib.Core.Bool.{true, false}
 use mathlib.Core.List.{List}
-use native.Mathlib.Omega.{arith}
 use lib.ListN.{getD}
-use Rattle.rules.specs.Map.{byRank}
+use Rattle.rules.specs.Map.{byDart}
 use Rattle.rules.specs.declared.WalkNo.{WalkNo}
 use Rattle.rules.specs.declared.Stand.{Stand}
 use Rattle.steps.specs.declared.Case.{Case}
 use Rattle.steps.specs.declared.Case.the-variants.{Known, Deduced, Asked}
-use Rattle.rules.specs.Walk.{Walk, Partner, partner}
+use Rattle.rules.specs.Walk.{Walk, partner}
 use Rattle.rules.specs.Session.{walkAt, needsSymbol, asks}
 use Rattle.rules.specs.Inner.{Shape}
 use Rattle.rules.proofs.Lowest.{head-lowest, head-past}
@@ -18,15 +17,15 @@ use Rattle.steps.specs.Partners.{looking, toldPartner}
 use Rattle.steps.proofs.Partners.{partner-looking}
 use Rattle.fitness.specs.Parts.{Found, asksAt}
 
-module _ (N n : ℕ) (s : Stand) (t : List ℕ) (v : Shape (walkAt byRank N n s t)) (j : ℕ) (F : Found N (s .count) (s .positions) j) where
+module _ (N n : ℕ) (s : Stand) (t : List ℕ) (v : Shape (walkAt byDart N n s t)) (j : ℕ) (F : Found N (s .count) (s .positions) j) where
   abbrev w : Walk
-  w = walkAt byRank N n s t
+  w = walkAt byDart N n s t
 
   pub asks-none : N < j → false ≡ asksAt w
   unfolding asks walkAt
   asks-none h = rw (head-past w v j (F .lower) h)
 
-  module _ (h : j ≤ N) (x : Case) (ex : toldPartner x ≡ partner (looking byRank N n t) j (getD (s .positions) j 0)) where
+  module _ (h : j ≤ N) (x : Case) (ex : toldPartner x ≡ partner (looking byDart N n t) j (getD (s .positions) j 0)) where
     asks-here : needsSymbol (toldPartner x) ≡ asksAt w
     unfolding asks walkAt
     asks-here = rw (head-lowest w v j (F .lower) h (F .some h), ex) (ap needsSymbol (sym (partner-looking w j (getD (s .positions) j 0))))

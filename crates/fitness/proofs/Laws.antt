@@ -1,12 +1,12 @@
 -- Laws of the tests of fitness: a loop over all numbers below a bound, then each function's answers, one way through its code at a time. Rests on the
 -- rules' Lists, Places and Codes and the entry of `tables`.
-use Prim.Native.Nat.{ℕ, zero, suc, _+_, _*_, _-_, _/_, _≤_, _<_, _^_}
+use Prim.Native.Nat.{ℕ, zero, suc, _+_, _*_, _-_, _/_, _%_, _≤_, _<_, _^_}
 use mathlib.Core.Path.{_≡_, refl, ap, sym, _∙_}
 use mathlib.Core.Logic.{_≢_}
 use mathlib.Core.Bool.{Bool, true, false, not, _&&_, _||_}
 use mathlib.Core.List.{List, _∷_}
 use native.Mathlib.Omega.{arith}
-use native.Mathlib.Nat.{div-lt-iff-lt-mul, pow-suc, mul-le-mul, div-eq-of-lt-le}
+use native.Mathlib.Nat.{div-lt-iff-lt-mul, pow-suc, mul-le-mul, mul-zero, mul-comm, div-eq-of-lt-le}
 use native.Mathlib.Decide.{ℕ-discrete, decLt}
 use lib.ListN.{length, getD}
 use lib.Dec.{eqb, ltb, leb}
@@ -18,19 +18,20 @@ use Rattle.rules.specs.declared.State.{State}
 use Rattle.rules.specs.declared.Stand.{Stand}
 use Rattle.rules.specs.declared.State.the-variants.{Header, Running, Complete, Closed, Refused}
 use Rattle.rules.specs.Lists.{allBelow}
-use Rattle.rules.specs.Map.{byRank, dimFits, dartsFit, size, place, link, Limits}
+use Rattle.rules.specs.Map.{byDart, dimFits, dartsFit, size, place, link, Limits}
+use Rattle.rules.specs.Exchange.{rankAt, dartAt}
 use Rattle.rules.specs.Walk.{head}
 use Rattle.rules.specs.Stream.{bitsOf}
 use Rattle.rules.specs.Refusals.{among, atHeader, ofIndex, inStep, atEnd, wipes, fitRefused}
 use Rattle.rules.specs.Session.{walkAt, standOf, walkOf, waitingOf, valueFits, onlyBits, positionsFit, entryFits, entriesFit, walkFits, asks, begins}
 use Rattle.rules.specs.Session.{allDone, fitAs, fit}
-use Rattle.rules.proofs.Lists.{and-left, and-right, or-left, or-right, not-both, all-below, below-all, below-same}
-use Rattle.rules.proofs.Places.{place-below, place-row, rank-nth, dart-nth}
+use Rattle.rules.proofs.Lists.{and-left, and-right, both, or-left, or-right, all-below, below-all, PassedSoFar, unless}
+use Rattle.rules.proofs.Places.{nth-some, nth-rank, nth-dart, nth-below, rank-nth, dart-nth, dart-place, rank-at, place-at}
 use Rattle.rules.proofs.Codes.{length-bits}
 use Rattle.tables.proofs.Laws.{entry-link}
 use Rattle.rules.specs.Inner.{Shape}
 use Rattle.rules.proofs.Fitness.{fits-inv}
-use Rattle.fitness.specs.Parts.{fallsAt, isAt, overAt, entryBy, entryOf, entryAt, allWithin, knownAt, openAt, blankAt, asksAt}
+use Rattle.fitness.specs.Parts.{fallsAt, isAt, overAt, entryBy, entryOf, entryAt, allWithin, knownAt, openAt, blankAt, linkedAt, passedAt, asksAt}
 
 -- tests whose other side is known
 and-no : (a : Bool) → (a && false) ≡ false
@@ -41,39 +42,9 @@ and-yes : (a : Bool) → (a && true) ≡ a
 and-yes true = refl
 and-yes false = refl
 
-and-assoc : (a b c : Bool) → ((a && b) && c) ≡ (a && (b && c))
-and-assoc true b c = refl
-and-assoc false b c = refl
-
 or-no : (a : Bool) → (a || false) ≡ a
 or-no true = refl
 or-no false = refl
-
--- of the numbers below k, all before i pass the test
-pub record PassedSoFar (f : ℕ → Bool) (k i : ℕ) : Type 0 where
-  pub upTo : i ≤ k
-  pub all : (x : ℕ) → x < i → f x ≡ true
-
-pub passed-start : (f : ℕ → Bool) (k : ℕ) → PassedSoFar f k 0
-passed-start f k = record { upTo = omega arith; all = λ x h. absurd (omega arith) }
-
-module _ {f : ℕ → Bool} {k i : ℕ} (p : PassedSoFar f k i) where
-  pub passed-next : i < k → f i ≡ true → PassedSoFar f k (i + 1)
-  passed-next h q = record { upTo = omega arith; all = λ x l. go x l (ℕ-discrete x i) }
-    where
-      go : (x : ℕ) → x < i + 1 → Dec (x ≡ i) → f x ≡ true
-      go x l (yes e) = rw e q
-      go x l (no e) = p .all x (omega arith)
-
-  pub passed-end : k ≤ i → true ≡ allBelow k f
-  passed-end h = sym (below-all k f (λ x l. p .all x (omega arith)))
-
-pub fails-at : (f : ℕ → Bool) (k i : ℕ) → i < k → f i ≡ false → false ≡ allBelow k f
-fails-at f k i h q = go (allBelow k f) refl
-  where
-    go : (b : Bool) → allBelow k f ≡ b → false ≡ allBelow k f
-    go true e = absurd (not-both (f i) (all-below k f e i h) q)
-    go false e = sym e
 
 -- positions
 pub is-yes : (ps : List ℕ) (x i : ℕ) → getD ps i 0 ≡ x → isAt ps x i ≡ true
@@ -108,13 +79,24 @@ pub past-yes : (N : ℕ) (ps : List ℕ) (i : ℕ) → getD ps i 0 ≡ 0 → ove
 unfolding overAt
 past-yes N ps i e = or-right (leb i N) (eqb (getD ps i 0) 0) (eq-eqb (getD ps i 0) 0 e)
 
--- positions that fall are not above the count
-pub falls-below : (N c : ℕ) (ps : List ℕ) → allBelow (suc N) (fallsAt c ps) ≡ true → (i : ℕ) → i ≤ N → getD ps i 0 ≤ c
-unfolding fallsAt
-falls-below N c ps e zero h = leb-true (getD ps 0 0) c (all-below (suc N) (fallsAt c ps) e 0 (omega arith))
-falls-below N c ps e (suc i) h =
-    let l = leb-true (getD ps (suc i) 0) (getD ps i 0) (all-below (suc N) (fallsAt c ps) e (suc i) (omega arith)) in
-    omega (arith, l, falls-below N c ps e i (omega arith))
+-- positions that fall are not above the count, and the last is not above another
+module _ (N c : ℕ) (ps : List ℕ) (e : allBelow (suc N) (fallsAt c ps) ≡ true) where
+  falls-on : (i j : ℕ) → i ≤ j → j ≤ suc N → getD (c ∷ ps) j 0 ≤ getD (c ∷ ps) i 0
+  unfolding fallsAt
+  falls-on i zero h l = let z : i ≡ 0 = omega arith in rw z (omega arith)
+  falls-on i (suc j) h l = go (falls-on i j) (ℕ-discrete i (suc j))
+    where
+      go : (i ≤ j → j ≤ suc N → getD (c ∷ ps) j 0 ≤ getD (c ∷ ps) i 0) → Dec (i ≡ suc j) → getD ps j 0 ≤ getD (c ∷ ps) i 0
+      go rec (yes q) = rw q (omega arith)
+      go rec (no q) =
+          let s = leb-true (getD ps j 0) (getD (c ∷ ps) j 0) (all-below (suc N) (fallsAt c ps) e j (omega arith)) in
+          omega (arith, s, rec (omega arith) (omega arith))
+
+  pub falls-below : (i : ℕ) → i ≤ N → getD ps i 0 ≤ c
+  falls-below i h = falls-on 0 (suc i) (omega arith) (omega arith)
+
+  pub falls-last : (i : ℕ) → i ≤ N → getD ps N 0 ≤ getD ps i 0
+  falls-last i h = falls-on (suc i) (suc N) (omega arith) (omega arith)
 
 -- a loop over the numbers from a up to b that counts those that fail the test: it has come to k
 pub record Faulty (f : ℕ → Bool) (a b k bad : ℕ) : Type 0 where
@@ -177,97 +159,228 @@ pub blank-no : (t : List ℕ) (k : ℕ) → getD t k 0 ≢ 65535 → blankAt t k
 unfolding blankAt
 blank-no t k e = ne-eqb (getD t k 0) 65535 e
 
--- a test below a + b is the test of the b numbers from a on and the one below a
-below-split : (a b : ℕ) (f : ℕ → Bool) → allBelow (a + b) f ≡ (allBelow b (λ k. f (a + k)) && allBelow a f)
-unfolding allBelow
-below-split a zero f = let e : a + 0 ≡ a = omega arith in rw e
-below-split a (suc b) f =
-    let e : a + suc b ≡ suc (a + b) = omega arith in
-    rw (e, allBelow, below-split a b f) (sym (and-assoc (f (a + b)) (allBelow b (λ k. f (a + k))) (allBelow a f)))
+-- what a rank's loop asks of dart d, whose link stands at k
+module _ (N n : ℕ) (t : List ℕ) (i d k : ℕ) (L : Limits N n t) (hi : i ≤ N) (hd : d < n) (e : k ≡ place byDart N n i d) where
+  pub linked-yes : getD t k 0 ≢ 65535 → linkedAt N n t i d ≡ true
+  unfolding linkedAt
+  linked-yes h = rw (← entry-link N n t i d L hi hd, ← e, ne-eqb (getD t k 0) 65535 h)
 
--- a test below k * n is one of k rows of n numbers
-below-rows : (k n : ℕ) (f : ℕ → Bool) → allBelow (k * n) f ≡ allBelow k (λ i. allBelow n (λ d. f (i * n + d)))
-unfolding allBelow
-below-rows zero n f = let e : 0 * n ≡ 0 = omega arith in rw e
-below-rows (suc k) n f = let e : suc k * n ≡ k * n + n = omega arith in rw (e, below-split (k * n) n f, below-rows k n f)
+  pub linked-no : getD t k 0 ≡ 65535 → linkedAt N n t i d ≡ false
+  unfolding linkedAt
+  linked-no h = rw (← entry-link N n t i d L hi hd, ← e, eq-eqb (getD t k 0) 65535 h)
 
--- a test of the first b numbers is the test of those from a up to b, which g does at x further on, and of the first a
-module _ (f g : ℕ → Bool) (a b x : ℕ) (h : a ≤ b) (s : (d : ℕ) → a ≤ d → d < b → f d ≡ g (x + d)) where
-  part : allBelow b f ≡ (allWithin (x + a) (x + b) g && allBelow a f)
-  unfolding allWithin
-  part =
-      let e : b ≡ a + (b - a) = omega arith in
-      let m : x + b - (x + a) ≡ b - a = omega arith in
-      let q = below-same (b - a) (λ k. f (a + k)) (λ k. g (x + a + k)) (λ k l. s (a + k) (omega arith) (omega arith) ∙ ap g (omega arith)) in
-      ap (λ (k : ℕ). allBelow k f) e ∙ (below-split a (b - a) f ∙ rw m (ap (λ (y : Bool). y && allBelow a f) q))
+-- a test of the numbers from a up to b, and of each
+all-within : (f : ℕ → Bool) (a b : ℕ) → allWithin a b f ≡ true → (k : ℕ) → a ≤ k → k < b → f k ≡ true
+unfolding allWithin
+all-within f a b e k h l = let q : a + (k - a) ≡ k = omega arith in rw q at (all-below (b - a) (λ x. f (a + x)) e (k - a) (omega arith))
 
--- a dart's entry: before the rank's position, from there up to the count, and past it
+within-all : (f : ℕ → Bool) (a b : ℕ) → ((k : ℕ) → a ≤ k → k < b → f k ≡ true) → allWithin a b f ≡ true
+unfolding allWithin
+within-all f a b h = below-all (b - a) (λ x. f (a + x)) (λ x l. h (a + x) (omega arith) (omega arith))
+
+-- the darts before p have the first (N+1)·p positions
+dart-before : (N n k p : ℕ) → dartAt byDart N n k < p → k < (N + 1) * p
+unfolding dartAt
+dart-before N n k p h = rw (mul-comm (N + 1) p, add-one) (div-lt-iff-lt-mul {k = suc N} (omega arith) .0 h)
+
+before-dart : (N n k p : ℕ) → k < (N + 1) * p → dartAt byDart N n k < p
+unfolding dartAt
+before-dart N n k p h = div-lt-iff-lt-mul {k = suc N} (omega arith) .1 (rw (mul-comm (N + 1) p, add-one) at h)
+
+-- so a test of the entries in a run of positions is one of the links of a run of darts, from p up to q
+module _ (N n : ℕ) (t : List ℕ) (L : Limits N n t) (g : ℕ → Bool) (p q : ℕ) (hq : q ≤ n) where
+  abbrev from : ℕ
+  from = (N + 1) * p
+
+  abbrev to : ℕ
+  to = (N + 1) * q
+
+  abbrev here : ℕ → Bool
+  here k = g (getD t k 0)
+
+  run-links : allWithin from to here ≡ true → (i d : ℕ) → i ≤ N → p ≤ d → d < q → g (link byDart N n t i d) ≡ true
+  run-links e i d hi h l =
+      let k = place byDart N n i d in
+      let x : dartAt byDart N n k ≡ d = dart-place byDart N n i d hi (omega arith) in
+      let b : (k < from → ⊥) = λ z. omega (arith, x, before-dart N n k p z) in
+      ap g (sym (entry-link N n t i d L hi (omega arith))) ∙ all-within here from to e k (omega (arith, b)) (dart-before N n k q (omega (arith, x)))
+
+  links-run : ((i d : ℕ) → i ≤ N → p ≤ d → d < q → g (link byDart N n t i d) ≡ true) → allWithin from to here ≡ true
+  links-run h = within-all here from to go
+    where
+      go : (k : ℕ) → from ≤ k → k < to → here k ≡ true
+      go k a b =
+          let i = rankAt byDart N n k in
+          let d = dartAt byDart N n k in
+          let l : d < q = before-dart N n k q b in
+          let s : k < size N n = rw add-one at (dart-before N n k n (omega (arith, l))) in
+          let hi = rank-at byDart N n k s in
+          let z : (d < p → ⊥) = λ y. omega (arith, dart-before N n k p y) in
+          rw (place-at byDart N n k s) at (ap g (entry-link N n t i d L hi (omega (arith, l))) ∙ h i d hi (omega (arith, z)) l)
+
+-- a dart's entry: before the count, there before the rank's position and from it on, and past the count
 module _ (c p d x : ℕ) where
-  entry-known : p ≤ c → c ≤ 65535 → d < p → entryBy c p d x ≡ ltb x c
+  entry-numbered : d < c → entryBy c p d x ≡ ((ltb x c || eqb x 65535) && (leb p d || not (eqb x 65535)))
   unfolding entryBy
-  entry-known hp hc h = rw (lt-ltb d c (omega arith), lt-leb p d h) (go (ℕ-discrete x 65535))
+  entry-numbered h = rw (lt-ltb d c h)
+
+  entry-passed : d < c → d < p → entryBy c p d x ≡ ((ltb x c || eqb x 65535) && not (eqb x 65535))
+  entry-passed h l = entry-numbered h ∙ rw (lt-leb p d l)
+
+  entry-known : c ≤ 65535 → d < c → d < p → entryBy c p d x ≡ ltb x c
+  entry-known hc h l = entry-passed h l ∙ go (ℕ-discrete x 65535)
     where
       go : Dec (x ≡ 65535) → ((ltb x c || eqb x 65535) && not (eqb x 65535)) ≡ ltb x c
       go (yes e) = rw (eq-eqb x 65535 e, le-ltb x c (omega arith))
       go (no e) = rw (ne-eqb x 65535 e, or-no, and-yes)
 
-  entry-open : p ≤ d → d < c → entryBy c p d x ≡ (ltb x c || eqb x 65535)
-  unfolding entryBy
-  entry-open h l = rw (lt-ltb d c l, le-leb p d h, and-yes)
+  entry-open : d < c → p ≤ d → entryBy c p d x ≡ (ltb x c || eqb x 65535)
+  entry-open h l = entry-numbered h ∙ rw (le-leb p d l, and-yes)
 
   entry-blank : c ≤ d → entryBy c p d x ≡ eqb x 65535
   unfolding entryBy
   entry-blank h = rw (le-ltb d c h)
 
--- a rank, whose entries stand from x on: the answers for its three parts
-module _ (N n : ℕ) (t : List ℕ) (i : ℕ) (L : Limits N n t) (hi : i ≤ N) (x : ℕ) (ex : x ≡ place byRank N n i 0) where
-  pub rank-room : x + n ≤ length t
-  rank-room = omega (arith, place-row N n i (n - 1), place-below byRank N n i (n - 1) hi (omega arith))
+-- a map has few entries
+pub few-entries : (N n : ℕ) → N ≤ 6 → n ≤ 4096 → (N + 1) * n ≤ 28672
+few-entries N n h k = mul-le-mul {n₁ = N + 1} {m₁ = n} {n₂ = 7} {m₂ = 4096} (omega arith) k
 
-  entry-here : (d : ℕ) → d < n → link byRank N n t i d ≡ getD t (x + d) 0
-  entry-here d h = sym (rw (place-row N n i d, ← ex) at (entry-link N n t i d L hi h))
+-- where three runs of entries end: of the darts before the last position, of those before the count, and of all
+pub record Runs (N n c last : ℕ) : Type 0 where
+  pub passed : (N + 1) * last ≤ (N + 1) * c
+  pub numbered : (N + 1) * c ≤ (N + 1) * n
+  pub all : (N + 1) * n ≤ 28672
 
-  module _ (c p : ℕ) (hc : c ≤ n) (hp : p ≤ c) where
-    abbrev fits : ℕ → Bool
-    fits = entryOf N n t c p i
+-- all entries: the run of the darts that all ranks have passed, that of the other numbered ones, that of those without a number, and in the second one what
+-- each rank has passed
+module _ (N n : ℕ) (t : List ℕ) (c : ℕ) (ps : List ℕ) (L : Limits N n t) (hc : c ≤ n) (hp : (i : ℕ) → i ≤ N → getD ps i 0 ≤ c)
+    (hN : (i : ℕ) → i ≤ N → getD ps N 0 ≤ getD ps i 0) where
+  abbrev last : ℕ
+  last = getD ps N 0
 
-    knowns : allBelow p fits ≡ allWithin x (x + p) (knownAt t c)
-    unfolding entryOf knownAt allBelow
-    knowns =
-        let z : x + 0 ≡ x = omega arith in
-        rw (z, and-yes) at (
-        part fits (knownAt t c) 0 p x (omega arith)
-        (λ d h l. entry-known c p d (link byRank N n t i d) hp (omega arith) l ∙ ap (λ (y : ℕ). ltb y c) (entry-here d (omega arith)))
-        )
+  abbrev knowns : Bool
+  knowns = allWithin 0 ((N + 1) * last) (knownAt t c)
 
-    opens : allBelow c fits ≡ (allWithin (x + p) (x + c) (openAt t c) && allBelow p fits)
-    unfolding entryOf openAt
-    opens =
-        part fits (openAt t c) p c x hp (λ d h l. entry-open c p d (link byRank N n t i d) h l ∙ ap (λ (y : ℕ). ltb y c || eqb y 65535) (entry-here d (omega arith)))
+  abbrev opens : Bool
+  opens = allWithin ((N + 1) * last) ((N + 1) * c) (openAt t c)
 
-    blanks : allBelow n fits ≡ (allWithin (x + c) (x + n) (blankAt t) && allBelow c fits)
-    unfolding entryOf blankAt
-    blanks = part fits (blankAt t) c n x hc (λ d h l. entry-blank c p d (link byRank N n t i d) h ∙ ap (λ (y : ℕ). eqb y 65535) (entry-here d (omega arith)))
+  abbrev blanks : Bool
+  blanks = allWithin ((N + 1) * c) ((N + 1) * n) (blankAt t)
 
-    pub rank-open : (o : Bool) → o ≡ allWithin (x + p) (x + c) (openAt t c) → not o ≡ true → false ≡ allBelow n fits
-    rank-open o eo h = rw (blanks, opens, ← eo, not-true o h, and-no)
+  abbrev passes : Bool
+  passes = allBelow N (passedAt N n t ps)
 
-    module _ (k : Bool) (ek : k ≡ allWithin x (x + p) (knownAt t c)) where
-      pub rank-known : not k ≡ true → false ≡ allBelow n fits
-      rank-known h = rw (blanks, opens, knowns, ← ek, not-true k h, and-no, and-no)
+  abbrev fits : Bool
+  fits = allBelow (size N n) (entryAt N n t c ps)
 
-      pub rank-blank : not k ≡ false → (o : Bool) → o ≡ allWithin (x + p) (x + c) (openAt t c) → not o ≡ false → (r : Bool)
-          → r ≡ allWithin (x + c) (x + n) (blankAt t) → r ≡ allBelow n fits
-      rank-blank hk o eo ho r e = rw (blanks, opens, knowns, ← ek, not-false k hk, ← eo, not-false o ho, and-yes) e
+  last-low : last ≤ c
+  last-low = hp N (omega arith)
 
--- all entries, rank by rank
-abbrev pub rankAt : ℕ → ℕ → List ℕ → ℕ → List ℕ → ℕ → Bool
-rankAt N n t c ps i = allBelow n (entryOf N n t c (getD ps i 0) i)
+  pub runs-end : Runs N n c last
+  runs-end = record { passed = grow last-low; numbered = grow hc; all = few-entries N n (L .dims .1) (L .darts .1) }
+    where
+      grow : {p q : ℕ} → p ≤ q → (N + 1) * p ≤ (N + 1) * q
+      grow {p} {q} h = mul-le-mul {n₁ = N + 1} {m₁ = p} {n₂ = N + 1} {m₂ = q} (omega arith) h
 
-pub by-ranks : (N n : ℕ) (t : List ℕ) (c : ℕ) (ps : List ℕ) → allBelow (suc N) (rankAt N n t c ps) ≡ allBelow (size N n) (entryAt N n t c ps)
-unfolding entryAt
-by-ranks N n t c ps =
-    sym (below-rows (suc N) n (entryAt N n t c ps) ∙ below-same (suc N) _ _ (λ i hi. below-same n _ _ (λ d hd. rw (rank-nth n i d hd, dart-nth n i d hd))))
+  -- where all entries fit, that of rank i at dart d does, and each part passes
+  module _ (e : fits ≡ true) where
+    entry-fits : (i d : ℕ) → i ≤ N → d < n → entryBy c (getD ps i 0) d (link byDart N n t i d) ≡ true
+    unfolding entryAt entryOf
+    entry-fits i d hi hd = rw (rank-nth n i d hd, dart-nth n i d hd) at (all-below (size N n) (entryAt N n t c ps) e (i * n + d) (nth-below N n i d hi hd))
+
+    fits-knowns : knowns ≡ true
+    unfolding knownAt
+    fits-knowns = rw (mul-zero (N + 1)) at (links-run N n t L (λ x. ltb x c) 0 last (omega (arith, last-low)) go)
+      where
+        go : (i d : ℕ) → i ≤ N → 0 ≤ d → d < last → ltb (link byDart N n t i d) c ≡ true
+        go i d hi h l =
+            let m : d < c = omega (arith, last-low) in
+            sym (entry-known c (getD ps i 0) d (link byDart N n t i d) (omega arith) m (omega (arith, hN i hi))) ∙ entry-fits i d hi (omega arith)
+
+    fits-opens : opens ≡ true
+    unfolding openAt
+    fits-opens =
+        links-run N n t L (λ x. ltb x c || eqb x 65535) last c hc
+        (λ i d hi h l. and-left _ _ (sym (entry-numbered c (getD ps i 0) d (link byDart N n t i d) l) ∙ entry-fits i d hi (omega arith)))
+
+    fits-blanks : blanks ≡ true
+    unfolding blankAt
+    fits-blanks =
+        links-run N n t L (λ x. eqb x 65535) c n (omega arith)
+        (λ i d hi h l. sym (entry-blank c (getD ps i 0) d (link byDart N n t i d) h) ∙ entry-fits i d hi l)
+
+    fits-passes : passes ≡ true
+    unfolding passedAt linkedAt
+    fits-passes = below-all N (passedAt N n t ps) (λ i hi. within-all (linkedAt N n t i) last (getD ps i 0) (λ d h l. go i d (omega arith) l))
+      where
+        go : (i d : ℕ) → i ≤ N → d < getD ps i 0 → not (eqb (link byDart N n t i d) 65535) ≡ true
+        go i d hi l =
+            let x = link byDart N n t i d in
+            let m : d < c = omega (arith, hp i hi) in
+            and-right (ltb x c || eqb x 65535) _ (sym (entry-passed c (getD ps i 0) d x m l) ∙ entry-fits i d hi (omega arith))
+
+  pub entries-known : knowns ≡ false → false ≡ fits
+  entries-known = unless fits knowns fits-knowns
+
+  pub entries-open : opens ≡ false → false ≡ fits
+  entries-open = unless fits opens fits-opens
+
+  pub entries-blank : blanks ≡ false → false ≡ fits
+  entries-blank = unless fits blanks fits-blanks
+
+  -- where each part passes, each entry fits
+  module _ (hk : knowns ≡ true) (ho : opens ≡ true) (hb : blanks ≡ true) where
+    module _ (i d : ℕ) (hi : i ≤ N) (hd : d < n) where
+      abbrev position : ℕ
+      position = getD ps i 0
+
+      abbrev entry : ℕ
+      entry = link byDart N n t i d
+
+      known-fits : d < last → entryBy c position d entry ≡ true
+      unfolding knownAt
+      known-fits l =
+          entry-known c position d entry (omega arith) (omega (arith, last-low)) (omega (arith, hN i hi))
+          ∙ run-links N n t L (λ x. ltb x c) 0 last (omega (arith, last-low)) (rw (mul-zero (N + 1)) hk) i d hi (omega arith) l
+
+      open-here : last ≤ d → d < c → (ltb entry c || eqb entry 65535) ≡ true
+      unfolding openAt
+      open-here h l = run-links N n t L (λ x. ltb x c || eqb x 65535) last c hc ho i d hi h l
+
+      -- rank N has passed no dart from the last position on
+      passed-fits : passes ≡ true → last ≤ d → d < position → d < c → entryBy c position d entry ≡ true
+      unfolding passedAt linkedAt
+      passed-fits e h l m =
+          let q : (i ≡ N → ⊥) = λ z. let y = ap (λ (k : ℕ). getD ps k 0) z in omega arith in
+          entry-passed c position d entry m l
+          ∙ both _ _ (open-here h m) (all-within (linkedAt N n t i) last position (all-below N (passedAt N n t ps) e i (omega (arith, q))) d h l)
+
+      blank-fits : c ≤ d → entryBy c position d entry ≡ true
+      unfolding blankAt
+      blank-fits h = entry-blank c position d entry h ∙ run-links N n t L (λ x. eqb x 65535) c n (omega arith) hb i d hi h hd
+
+      all-fit : passes ≡ true → entryBy c position d entry ≡ true
+      all-fit e = go (decLt d c) (decLt d last) (decLt d position)
+        where
+          go : Dec (d < c) → Dec (d < last) → Dec (d < position) → entryBy c position d entry ≡ true
+          go (no a) y z = blank-fits (omega arith)
+          go (yes a) (yes y) z = known-fits y
+          go (yes a) (no y) (no z) = entry-open c position d entry a (omega arith) ∙ open-here (omega arith) a
+          go (yes a) (no y) (yes z) = passed-fits e (omega arith) z a
+
+    passes-fits : passes ≡ true → fits ≡ true
+    unfolding entryAt entryOf
+    passes-fits e = below-all (size N n) (entryAt N n t c ps) go
+      where
+        go : (k : ℕ) → k < size N n → entryAt N n t c ps k ≡ true
+        go k h = let s = nth-some N n k h in all-fit (k / n) (k % n) (nth-rank N n k s h) (nth-dart n k s) e
+
+    pub entries-passed : (r : Bool) → r ≡ passes → r ≡ fits
+    entries-passed r q = q ∙ go passes refl
+      where
+        go : (b : Bool) → passes ≡ b → passes ≡ fits
+        go true e = e ∙ sym (passes-fits e)
+        go false e = e ∙ unless fits passes fits-passes e
 
 -- bits
 pub begins-many : (k x : ℕ) → 13 < k → false ≡ (leb k 13 && ltb x (2 ^ k) && begins (bitsOf k x))
@@ -400,10 +513,6 @@ module _ (s : Session) where
           rw (eq-eqb (s .count) (s .darts) hc, eq-eqb (s .waiting) 0 hw, eq-eqb (s .value) 0 h)
           (e ∙ (ap (λ (k : ℕ). allBelow k (isAt (s .positions) (s .darts))) (add-one (s .dim)) ∙ sym (and-yes _ ∙ and-yes _)))
 
--- so few entries that their number fits
-pub few-entries : (N n : ℕ) → N ≤ 6 → n ≤ 4096 → (N + 1) * n < 18446744073709551616
-few-entries N n h k = let a : N + 1 ≤ 7 = omega arith in let l : (N + 1) * n ≤ 7 * 4096 = mul-le-mul a k in omega arith
-
 -- N, n, the room and the count pass
 pub record Sized (s : Session) (t : List ℕ) : Type 0 where
   pub low : 1 ≤ s .dim
@@ -429,59 +538,59 @@ all-sized {s} {t} k = rw (
 
 -- what running and complete share: a test that fails, one after another
 module _ (s : Session) (t : List ℕ) where
-  pub walk-low : s .dim < 1 → false ≡ walkFits byRank s t
+  pub walk-low : s .dim < 1 → false ≡ walkFits byDart s t
   unfolding walkFits dimFits
   walk-low h = rw (lt-leb 1 (s .dim) h)
 
-  pub walk-high : 6 < s .dim → false ≡ walkFits byRank s t
+  pub walk-high : 6 < s .dim → false ≡ walkFits byDart s t
   unfolding walkFits dimFits
   walk-high h = rw (lt-leb (s .dim) 6 h, and-no)
 
-  pub walk-none : s .darts < 1 → false ≡ walkFits byRank s t
+  pub walk-none : s .darts < 1 → false ≡ walkFits byDart s t
   unfolding walkFits dartsFit
   walk-none h = rw (lt-leb 1 (s .darts) h, and-no)
 
-  pub walk-many : 4096 < s .darts → false ≡ walkFits byRank s t
+  pub walk-many : 4096 < s .darts → false ≡ walkFits byDart s t
   unfolding walkFits dartsFit
   walk-many h = rw (lt-leb (s .darts) 4096 h, and-no, and-no)
 
-  pub walk-short : length t < (s .dim + 1) * s .darts → false ≡ walkFits byRank s t
+  pub walk-short : length t < (s .dim + 1) * s .darts → false ≡ walkFits byDart s t
   unfolding walkFits
   walk-short h = rw (lt-leb (size (s .dim) (s .darts)) (length t) (omega arith), and-no)
 
-  pub walk-empty : s .count < 1 → false ≡ walkFits byRank s t
+  pub walk-empty : s .count < 1 → false ≡ walkFits byDart s t
   unfolding walkFits
   walk-empty h = rw (lt-leb 1 (s .count) h, and-no)
 
-  pub walk-over : s .darts < s .count → false ≡ walkFits byRank s t
+  pub walk-over : s .darts < s .count → false ≡ walkFits byDart s t
   unfolding walkFits
   walk-over h = rw (lt-leb (s .count) (s .darts) h, and-no)
 
   module _ (f : Bool) (ef : f ≡ allBelow (suc (s .dim)) (fallsAt (s .count) (s .positions))) where
-    pub walk-rising : not f ≡ true → false ≡ walkFits byRank s t
+    pub walk-rising : not f ≡ true → false ≡ walkFits byDart s t
     unfolding walkFits positionsFit fallsAt
     walk-rising h = rw (← ef, not-true f h, and-no)
 
     module _ (p : Bool) (ep : p ≡ allBelow 7 (overAt (s .dim) (s .positions))) where
-      pub walk-past : not p ≡ true → false ≡ walkFits byRank s t
+      pub walk-past : not p ≡ true → false ≡ walkFits byDart s t
       unfolding walkFits positionsFit overAt
       walk-past h = rw (← ep, not-true p h, and-no, and-no)
 
       -- every test but that of the entries passes
       pub walk-entries : Sized s t → not f ≡ false → not p ≡ false
-          → (r : Bool) → r ≡ allBelow (size (s .dim) (s .darts)) (entryAt (s .dim) (s .darts) t (s .count) (s .positions)) → r ≡ walkFits byRank s t
+          → (r : Bool) → r ≡ allBelow (size (s .dim) (s .darts)) (entryAt (s .dim) (s .darts) t (s .count) (s .positions)) → r ≡ walkFits byDart s t
       unfolding walkFits positionsFit entriesFit entryFits fallsAt overAt entryAt entryOf entryBy
       walk-entries k hf hp r e = rw (all-sized k, ← ef, not-false f hf, ← ep, not-false p hp) e
 
   -- what it says of the limits
-  fits-limits : walkFits byRank s t ≡ true → Limits (s .dim) (s .darts) t
+  fits-limits : walkFits byDart s t ≡ true → Limits (s .dim) (s .darts) t
   unfolding walkFits dimFits dartsFit
   fits-limits e =
       let a = dimFits (s .dim) in
       let b = dartsFit (s .darts) in
       let c = leb (size (s .dim) (s .darts)) (length t) in
       let counted = a && b && c && leb 1 (s .count) in
-      let placed = and-left (counted && leb (s .count) (s .darts)) (positionsFit s) (and-left _ (entriesFit byRank s t) e) in
+      let placed = and-left (counted && leb (s .count) (s .darts)) (positionsFit s) (and-left _ (entriesFit byDart s t) e) in
       let all = and-left (a && b && c) (leb 1 (s .count)) (and-left counted (leb (s .count) (s .darts)) placed) in
       let d = and-left a b (and-left (a && b) c all) in
       let n = and-right a b (and-left (a && b) c all) in
@@ -495,12 +604,12 @@ module _ (s : Session) (t : List ℕ) where
       }
 
   -- running and complete, w being what `walk_fits` answered
-  module _ (w : Bool) (e : w ≡ walkFits byRank s t) where
-    pub running-unfit : not w ≡ true → false ≡ fitAs byRank Running s t
+  module _ (w : Bool) (e : w ≡ walkFits byDart s t) where
+    pub running-unfit : not w ≡ true → false ≡ fitAs byDart Running s t
     unfolding fitAs
     running-unfit h = rw (← e, not-true w h)
 
-    pub complete-unfit : not w ≡ true → false ≡ fitAs byRank Complete s t
+    pub complete-unfit : not w ≡ true → false ≡ fitAs byDart Complete s t
     unfolding fitAs
     complete-unfit h = rw (← e, not-true w h)
 
@@ -508,45 +617,45 @@ module _ (s : Session) (t : List ℕ) where
       pub limits-of : Limits (s .dim) (s .darts) t
       limits-of = fits-limits (sym e ∙ not-false w hw)
 
-      pub shape-of : length (s .positions) ≡ 7 → (x : Stand) → x ≡ standOf s → Shape (walkAt byRank (s .dim) (s .darts) x t)
-      shape-of seven x ex = rw ex (fits-inv byRank s t seven (sym e ∙ not-false w hw) .0 .shape)
+      pub shape-of : length (s .positions) ≡ 7 → (x : Stand) → x ≡ standOf s → Shape (walkAt byDart (s .dim) (s .darts) x t)
+      shape-of seven x ex = rw ex (fits-inv byDart s t seven (sym e ∙ not-false w hw) .0 .shape)
 
-      pub complete-fit : (r : Bool) → r ≡ allDone s → r ≡ fitAs byRank Complete s t
+      pub complete-fit : (r : Bool) → r ≡ allDone s → r ≡ fitAs byDart Complete s t
       unfolding fitAs
       complete-fit r q = rw (← e, not-false w hw) q
 
-      module _ (x : Stand) (ex : x ≡ standOf s) (a : Bool) (ea : a ≡ asksAt (walkAt byRank (s .dim) (s .darts) x t)) where
-        asking : asks (walkOf byRank s t) (head (walkOf byRank s t)) ≡ a
+      module _ (x : Stand) (ex : x ≡ standOf s) (a : Bool) (ea : a ≡ asksAt (walkAt byDart (s .dim) (s .darts) x t)) where
+        asking : asks (walkOf byDart s t) (head (walkOf byDart s t)) ≡ a
         asking = sym (rw ex at ea)
 
-        pub running-still : not a ≡ true → false ≡ fitAs byRank Running s t
+        pub running-still : not a ≡ true → false ≡ fitAs byDart Running s t
         unfolding fitAs
         running-still h = rw (← e, not-false w hw, asking, not-true a h)
 
         pub running-begun : not a ≡ false → (r : Bool)
-            → r ≡ (leb (s .waiting) 13 && ltb (s .value) (2 ^ s .waiting) && begins (bitsOf (s .waiting) (s .value))) → r ≡ fitAs byRank Running s t
+            → r ≡ (leb (s .waiting) 13 && ltb (s .value) (2 ^ s .waiting) && begins (bitsOf (s .waiting) (s .value))) → r ≡ fitAs byDart Running s t
         unfolding fitAs valueFits waitingOf
         running-begun h r q = rw (← e, not-false w hw, asking, not-false a h) q
 
   -- the state's own case
-  fit-as : (st : State) → s .state ≡ st → fitAs byRank st s t ≡ fit byRank s t
+  fit-as : (st : State) → s .state ≡ st → fitAs byDart st s t ≡ fit byDart s t
   unfolding fit
-  fit-as st e = ap (λ (x : State). fitAs byRank x s t) (sym e)
+  fit-as st e = ap (λ (x : State). fitAs byDart x s t) (sym e)
 
-  pub fit-header : s .state ≡ Header → (r : Bool) → r ≡ fitHeader s → r ≡ fit byRank s t
+  pub fit-header : s .state ≡ Header → (r : Bool) → r ≡ fitHeader s → r ≡ fit byDart s t
   unfolding fitAs
   fit-header e r q = q ∙ fit-as Header e
 
-  pub fit-running : s .state ≡ Running → (r : Bool) → r ≡ fitAs byRank Running s t → r ≡ fit byRank s t
+  pub fit-running : s .state ≡ Running → (r : Bool) → r ≡ fitAs byDart Running s t → r ≡ fit byDart s t
   fit-running e r q = q ∙ fit-as Running e
 
-  pub fit-complete : s .state ≡ Complete → (r : Bool) → r ≡ fitAs byRank Complete s t → r ≡ fit byRank s t
+  pub fit-complete : s .state ≡ Complete → (r : Bool) → r ≡ fitAs byDart Complete s t → r ≡ fit byDart s t
   fit-complete e r q = q ∙ fit-as Complete e
 
-  pub fit-closed : s .state ≡ Closed → true ≡ fit byRank s t
+  pub fit-closed : s .state ≡ Closed → true ≡ fit byDart s t
   unfolding fitAs
   fit-closed e = fit-as Closed e
 
-  pub fit-refused : (nr p : ℕ) → s .state ≡ Refused nr p → (r : Bool) → r ≡ fitRefused nr p → r ≡ fit byRank s t
+  pub fit-refused : (nr p : ℕ) → s .state ≡ Refused nr p → (r : Bool) → r ≡ fitRefused nr p → r ≡ fit byDart s t
   unfolding fitAs
   fit-refused nr p e r q = q ∙ fit-as (Refused nr p) e

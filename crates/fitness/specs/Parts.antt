@@ -5,7 +5,7 @@ use mathlib.Core.Bool.{Bool, not, _&&_, _||_, cond}
 use lib.ListN.{getD}
 use lib.Dec.{eqb, ltb, leb}
 use Rattle.rules.specs.Lists.{allBelow}
-use Rattle.rules.specs.Map.{byRank, mark, link}
+use Rattle.rules.specs.Map.{byDart, mark, link}
 use Rattle.rules.specs.Walk.{Walk, head}
 use Rattle.rules.specs.Session.{asks}
 use Rattle.rules.specs.Inner.{Emptied}
@@ -28,7 +28,7 @@ entryBy c p d x = cond (ltb d c) ((ltb x c || eqb x mark) && (leb p d || not (eq
 
 -- the entry of dart d at rank i, whose position is p
 unfoldable pub entryOf : ℕ → ℕ → List ℕ → ℕ → ℕ → ℕ → ℕ → Bool
-entryOf N n t c p i d = entryBy c p d (link byRank N n t i d)
+entryOf N n t c p i d = entryBy c p d (link byDart N n t i d)
 
 -- the k-th entry by rank, then dart
 unfoldable pub entryAt : ℕ → ℕ → List ℕ → ℕ → List ℕ → ℕ → Bool
@@ -49,6 +49,14 @@ openAt t c k = ltb (getD t k 0) c || eqb (getD t k 0) mark
 -- it is the mark
 unfoldable pub blankAt : List ℕ → ℕ → Bool
 blankAt t k = eqb (getD t k 0) mark
+
+-- dart d has a link of rank i
+unfoldable pub linkedAt : ℕ → ℕ → List ℕ → ℕ → ℕ → Bool
+linkedAt N n t i d = not (eqb (link byDart N n t i d) mark)
+
+-- the darts that rank i has passed and rank N has not have links of rank i
+unfoldable pub passedAt : ℕ → ℕ → List ℕ → List ℕ → ℕ → Bool
+passedAt N n t positions i = allWithin (getD positions N 0) (getD positions i 0) (linkedAt N n t i)
 
 -- the lowest queue that isn't empty is Lr, or all are empty
 pub record Found (N count : ℕ) (positions : List ℕ) (r : ℕ) : Type 0 where

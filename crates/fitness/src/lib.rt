@@ -10,14 +10,14 @@ ghost use Prim.Native.Nat.{ℕ, suc, _+_, _≤_, _^_};
 ghost use lib.ListN.{length, getD};
 ghost use lib.Dec.{eqb, ltb, leb};
 ghost use Rattle.rules.specs.Lists.{allBelow};
-ghost use Rattle.rules.specs.Map.{byRank, Limits, size};
+ghost use Rattle.rules.specs.Map.{byDart, Limits, size};
 ghost use Rattle.rules.specs.Stream.{bitsOf};
 ghost use Rattle.rules.specs.Refusals.{fitRefused};
 ghost use Rattle.rules.specs.Session.{walkAt, valueFits, onlyBits, walkFits, allDone, fitAs};
 ghost use Rattle.rules.specs.Inner.{Shape};
 ghost use Rattle.rules.specs.declared.State.the-variants.{Running, Complete};
-ghost use Rattle.fitness.specs.Parts.{fallsAt, isAt, overAt, allWithin, knownAt, openAt, blankAt, entryOf};
-ghost use Rattle.fitness.specs.Parts.{entryAt, Found, asksAt};
+ghost use Rattle.fitness.specs.Parts.{fallsAt, isAt, overAt, allWithin, knownAt, openAt, blankAt};
+ghost use Rattle.fitness.specs.Parts.{linkedAt, passedAt, entryAt, Found, asksAt};
 
 // The first positions are all x.
 pub fn positions_are(k: usize, x: u16, positions: [u16; 7]) -> bool
@@ -83,10 +83,10 @@ pub fn positions_past(dim: usize, positions: [u16; 7]) -> bool
     true
 }
 
-// The darts before a rank's position: each has a link to a numbered dart. This loop and the two after it count what is
-// wrong and do not stop there, so that the compiler can test many entries at once.
+// Entries of darts that all ranks have passed: each is a link to a numbered dart. This loop and the two after it count
+// what is wrong and do not stop there, so that the compiler can test many entries at once.
 pub fn known_fit(tables: &[u16], from: usize, to: usize, count: u16) -> bool
-    requires { ⌜ (from ≤ to) × (to ≤ from + 4096) × (to ≤ length (now tables)) ⌝ }
+    requires { ⌜ (from ≤ to) × (to ≤ from + 28672) × (to ≤ length (now tables)) ⌝ }
     ensures { λ r. ⌜ r ≡ allWithin from to (knownAt (now (tables .entry)) count) ⌝ }
 {
     let mut bad: u16 = 0;
@@ -100,9 +100,9 @@ pub fn known_fit(tables: &[u16], from: usize, to: usize, count: u16) -> bool
     bad == 0
 }
 
-// The numbered darts from the position on: each has a link to a numbered dart or none.
+// Entries of numbered darts: each is a link to a numbered dart or none.
 pub fn open_fit(tables: &[u16], from: usize, to: usize, count: u16) -> bool
-    requires { ⌜ (from ≤ to) × (to ≤ from + 4096) × (to ≤ length (now tables)) ⌝ }
+    requires { ⌜ (from ≤ to) × (to ≤ from + 28672) × (to ≤ length (now tables)) ⌝ }
     ensures { λ r. ⌜ r ≡ allWithin from to (openAt (now (tables .entry)) count) ⌝ }
 {
     let mut bad: u16 = 0;
@@ -119,9 +119,9 @@ pub fn open_fit(tables: &[u16], from: usize, to: usize, count: u16) -> bool
     bad == 0
 }
 
-// The darts without a number: none has a link.
+// Entries of darts without a number: none is a link.
 pub fn blank_fit(tables: &[u16], from: usize, to: usize) -> bool
-    requires { ⌜ (from ≤ to) × (to ≤ from + 4096) × (to ≤ length (now tables)) ⌝ }
+    requires { ⌜ (from ≤ to) × (to ≤ from + 28672) × (to ≤ length (now tables)) ⌝ }
     ensures { λ r. ⌜ r ≡ allWithin from to (blankAt (now (tables .entry))) ⌝ }
 {
     let mut bad: u16 = 0;
@@ -135,44 +135,39 @@ pub fn blank_fit(tables: &[u16], from: usize, to: usize) -> bool
     bad == 0
 }
 
-// Every entry of a rank.
-pub fn rank_fits(
+// The darts from one up to another, which a rank has passed: each has a link of that rank.
+pub fn rank_passed(
     tables: &[u16],
     dim: usize,
     darts: usize,
     rank: usize,
-    count: u16,
-    position: u16,
+    from: u16,
+    to: u16,
 ) -> bool
-    requires { ⌜ Limits dim darts (now tables) × (rank ≤ dim) × (count ≤ darts) × (position ≤ count) ⌝ }
-    ensures { λ r. ⌜ r ≡ allBelow darts (entryOf dim darts (now (tables .entry)) count position rank) ⌝ }
+    requires { ⌜ Limits dim darts (now tables) × (rank ≤ dim) × (from ≤ to) × (to ≤ darts) ⌝ }
+    ensures { λ r. ⌜ r ≡ allWithin from to (linkedAt dim darts (now (tables .entry)) rank) ⌝ }
 {
-    let from = tables::place(dim, darts, rank, 0);
-    let passed = from + position as usize;
-    let numbered = from + count as usize;
-    if !known_fit(tables, from, passed, count) {
-        return false;
+    let end = to as usize;
+    let mut bad: u16 = 0;
+    let mut d = from as usize;
+    while d < end {
+        if tables[tables::place(dim, darts, rank, d)] == Session::NO_LINK {
+            bad += 1;
+        }
+        d += 1;
     }
-    if !open_fit(tables, passed, numbered, count) {
-        return false;
-    }
-    blank_fit(tables, numbered, from + darts)
+    bad == 0
 }
 
-// Every entry, rank by rank.
-pub fn entries_fit(
-    tables: &[u16],
-    dim: usize,
-    darts: usize,
-    count: u16,
-    positions: [u16; 7],
-) -> bool
-    requires { ⌜ Limits dim darts (now tables) × (count ≤ darts) × ((i : ℕ) → i ≤ dim → getD positions i 0 ≤ count) ⌝ }
-    ensures { λ r. ⌜ r ≡ allBelow (size dim darts) (entryAt dim darts (now (tables .entry)) count positions) ⌝ }
+// The darts that each rank has passed and the last one has not.
+pub fn ranks_passed(tables: &[u16], dim: usize, darts: usize, positions: [u16; 7]) -> bool
+    requires { ⌜ Limits dim darts (now tables) × ((i : ℕ) → i ≤ dim → getD positions i 0 ≤ darts)
+        × ((i : ℕ) → i ≤ dim → getD positions dim 0 ≤ getD positions i 0) ⌝ }
+    ensures { λ r. ⌜ r ≡ allBelow dim (passedAt dim darts (now (tables .entry)) positions) ⌝ }
 {
     let mut rank = 0;
-    while rank <= dim {
-        if !rank_fits(tables, dim, darts, rank, count, positions[rank]) {
+    while rank < dim {
+        if !rank_passed(tables, dim, darts, rank, positions[dim], positions[rank]) {
             return false;
         }
         rank += 1;
@@ -180,9 +175,36 @@ pub fn entries_fit(
     true
 }
 
+// Every entry. The darts that all ranks have passed come first, then the other numbered ones, then those without a
+// number: three runs of entries. In the second run what each rank has passed is looked at once more.
+pub fn entries_fit(
+    tables: &[u16],
+    dim: usize,
+    darts: usize,
+    count: u16,
+    positions: [u16; 7],
+) -> bool
+    requires { ⌜ Limits dim darts (now tables) × (count ≤ darts) × ((i : ℕ) → i ≤ dim → getD positions i 0 ≤ count)
+        × ((i : ℕ) → i ≤ dim → getD positions dim 0 ≤ getD positions i 0) ⌝ }
+    ensures { λ r. ⌜ r ≡ allBelow (size dim darts) (entryAt dim darts (now (tables .entry)) count positions) ⌝ }
+{
+    let passed = (dim + 1) * positions[dim] as usize;
+    let numbered = (dim + 1) * count as usize;
+    if !known_fit(tables, 0, passed, count) {
+        return false;
+    }
+    if !open_fit(tables, passed, numbered, count) {
+        return false;
+    }
+    if !blank_fit(tables, numbered, (dim + 1) * darts) {
+        return false;
+    }
+    ranks_passed(tables, dim, darts, positions)
+}
+
 // What running and complete share.
 pub fn walk_fits(s: Session, tables: &[u16]) -> bool
-    ensures { λ r. ⌜ r ≡ walkFits byRank s (now (tables .entry)) ⌝ }
+    ensures { λ r. ⌜ r ≡ walkFits byDart s (now (tables .entry)) ⌝ }
 {
     let dim = s.dim as usize;
     let darts = s.darts as usize;
@@ -236,8 +258,8 @@ pub fn lowest(dim: usize, count: u16, positions: [u16; 7]) -> usize
 
 // A queue isn't empty, and the next step needs a symbol.
 pub fn asks(dim: usize, darts: usize, stand: Stand, tables: &[u16]) -> bool
-    requires { ⌜ Limits dim darts (now tables) × Shape (walkAt byRank dim darts stand (now tables)) ⌝ }
-    ensures { λ r. ⌜ r ≡ asksAt (walkAt byRank dim darts stand (now (tables .entry))) ⌝ }
+    requires { ⌜ Limits dim darts (now tables) × Shape (walkAt byDart dim darts stand (now tables)) ⌝ }
+    ensures { λ r. ⌜ r ≡ asksAt (walkAt byDart dim darts stand (now (tables .entry))) ⌝ }
 {
     let count = stand.count;
     let positions = stand.positions;
@@ -310,7 +332,7 @@ pub fn header_fits(s: Session) -> bool
 
 // Is a running session fit?
 pub fn running_fits(s: Session, tables: &[u16]) -> bool
-    ensures { λ r. ⌜ r ≡ fitAs byRank Running s (now (tables .entry)) ⌝ }
+    ensures { λ r. ⌜ r ≡ fitAs byDart Running s (now (tables .entry)) ⌝ }
 {
     if !walk_fits(s, tables) {
         return false;
@@ -323,7 +345,7 @@ pub fn running_fits(s: Session, tables: &[u16]) -> bool
 
 // Is a complete session fit?
 pub fn complete_fits(s: Session, tables: &[u16]) -> bool
-    ensures { λ r. ⌜ r ≡ fitAs byRank Complete s (now (tables .entry)) ⌝ }
+    ensures { λ r. ⌜ r ≡ fitAs byDart Complete s (now (tables .entry)) ⌝ }
 {
     if !walk_fits(s, tables) {
         return false;
@@ -364,7 +386,7 @@ pub fn refusal_fits(number: u32, place: u32) -> bool
 
 // Is a session fit, with the tables lent?
 pub fn fit(s: Session, tables: &[u16]) -> bool
-    ensures { λ r. ⌜ r ≡ Rattle.rules.specs.Session.fit byRank s (now (tables .entry)) ⌝ }
+    ensures { λ r. ⌜ r ≡ Rattle.rules.specs.Session.fit byDart s (now (tables .entry)) ⌝ }
 {
     let state = s.state;
     match state {

@@ -7,7 +7,7 @@ use mathlib.Core.List.{List}
 use native.Mathlib.Omega.{arith}
 use native.Mathlib.Decide.{ℕ-discrete}
 use lib.ListN.{getD}
-use Rattle.rules.specs.Map.{byRank, link, Reached}
+use Rattle.rules.specs.Map.{byDart, link, Reached}
 use Rattle.rules.proofs.Lists.{or-cases, or-left, or-right}
 use Rattle.flood.specs.declared.Ranks.{Ranks}
 use Rattle.flood.specs.Flood.{kept, between, Marked, queued, enteredRoom, enteredTail, Queue, Extended, Linked, Traced, Around, Explored}
@@ -30,7 +30,7 @@ pub linked-two : {keep : ℕ → Bool} {N n : ℕ} {t : List ℕ} {d c e m : ℕ
 linked-two l Linked.here = l
 linked-two l (Linked.onward i h k ne r) = omega arith
 
-pub linked-reached : {keep : ℕ → Bool} {N n : ℕ} {t : List ℕ} {d c e m : ℕ} → Linked keep N n t d c e m → Reached byRank keep N n t d e
+pub linked-reached : {keep : ℕ → Bool} {N n : ℕ} {t : List ℕ} {d c e m : ℕ} → Linked keep N n t d c e m → Reached byDart keep N n t d e
 linked-reached Linked.here = Reached.here
 linked-reached (Linked.onward i h k ne r) = Reached.onward i h k (linked-reached r)
 
@@ -68,16 +68,16 @@ module _ {N n : ℕ} {t : List ℕ} where
   spread-none from Q = record { on = extended-refl Q; traced = λ p h k. absurd (omega arith); around = λ i h k. absurd (between-none from i k) }
 
   -- one rank, as the code does it
-  pub spread-one : {rank tail d class tail' : ℕ} {w w' : List ℕ} → Queue n tail w → rank ≤ N → link byRank N n t rank d < n → getD w d 0 < 2
-      → class ≡ 1 - getD w d 0 → tail' ≡ enteredTail w tail (link byRank N n t rank d) → w' ≡ enteredRoom n w tail (link byRank N n t rank d) class
+  pub spread-one : {rank tail d class tail' : ℕ} {w w' : List ℕ} → Queue n tail w → rank ≤ N → link byDart N n t rank d < n → getD w d 0 < 2
+      → class ≡ 1 - getD w d 0 → tail' ≡ enteredTail w tail (link byDart N n t rank d) → w' ≡ enteredRoom n w tail (link byDart N n t rank d) class
       → SpreadFrom (between rank (rank + 1)) N n t d tail tail' w w'
   spread-one {rank} {tail} {d} {class} {tail'} {w} {w'} Q hr hl h2 ec et ew = record { on = E .on; traced = traced; around = around }
     where
-      E : Entered n (link byRank N n t rank d) class tail tail' w w'
+      E : Entered n (link byDart N n t rank d) class tail tail' w w'
       E = rw (et, ew) (entry Q hl (omega arith))
 
       -- what is new has the other class, so it is another dart
-      joins : (p : ℕ) → queued n w' p ≡ link byRank N n t rank d → getD w' (queued n w' p) 0 ≡ class → link byRank N n t rank d ≢ d
+      joins : (p : ℕ) → queued n w' p ≡ link byDart N n t rank d → getD w' (queued n w' p) 0 ≡ class → link byDart N n t rank d ≢ d
       joins p a b z =
           let same = extended-class (E .on) (rw z at hl) h2 in
           let other = rw (a, z) at b in
@@ -110,7 +110,7 @@ module _ {N n : ℕ} {t : List ℕ} where
       around : Around whole N n t d w''
       around i h k = go (or-cases (one i) (other i) (sym (union i h) ∙ k))
         where
-          go : (one i ≡ true) ⊎ (other i ≡ true) → (link byRank N n t i d < n) × Marked w'' (link byRank N n t i d)
+          go : (one i ≡ true) ⊎ (other i ≡ true) → (link byDart N n t i d < n) × Marked w'' (link byDart N n t i d)
           go (inl e) = around-on one N n t (T .on) d (S .around) i h e
           go (inr e) = T .around i h e
 
@@ -139,7 +139,7 @@ module _ {N n : ℕ} {t : List ℕ} where
   module _ {keep : ℕ → Bool} {start class tail tail' head end : ℕ} {w w' : List ℕ} (F : Flooding keep N n t start class tail tail' head end w w') where
     -- the links of the dart at the head lead to darts
     pub flooding-inside : OrbitInside keep N n t start → head < end → LinksInside keep N n t (queued n w' head)
-    flooding-inside O h i hi k = O (link byRank N n t i (queued n w' head)) (Reached.onward i hi k (linked-reached (F .traced head (F .begun) h)))
+    flooding-inside O h i hi k = O (link byDart N n t i (queued n w' head)) (Reached.onward i hi k (linked-reached (F .traced head (F .begun) h)))
 
     -- it has been spread from
     pub flooding-next : {end' : ℕ} {w'' : List ℕ} → head < end → SpreadFrom keep N n t (queued n w' head) end end' w' w''

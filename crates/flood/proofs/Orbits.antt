@@ -7,7 +7,7 @@ use mathlib.Core.List.{List}
 use native.Mathlib.Omega.{arith}
 use native.Mathlib.Decide.{decLt}
 use lib.ListN.{getD}
-use Rattle.rules.specs.Map.{byRank, mark, link, Reached, allBut, Valid}
+use Rattle.rules.specs.Map.{byDart, mark, link, Reached, allBut, Valid}
 use Rattle.rules.proofs.Orbits.{valid-closed, reached-below, reached-sym}
 use Rattle.flood.specs.declared.Ranks.{Ranks}
 use Rattle.flood.specs.Flood.{kept, butOne, Marked, queued, Queue, Extended, Linked, Explored, OrbitInside, Flooded, Orbit}
@@ -16,7 +16,7 @@ use Rattle.flood.proofs.Queues.{extended-marked, extended-trans, entry}
 use Rattle.flood.proofs.Floods.{linked-reached, explored-on}
 
 -- in a valid map all that is reached from a dart is a dart
-pub orbit-inside : {keep : ℕ → Bool} {N n d : ℕ} {t : List ℕ} → Valid byRank N n t → d < n → OrbitInside keep N n t d
+pub orbit-inside : {keep : ℕ → Bool} {N n d : ℕ} {t : List ℕ} → Valid byDart N n t → d < n → OrbitInside keep N n t d
 orbit-inside v h e r = reached-below (valid-closed v) h r
 
 -- a flood by all ranks but one
@@ -27,7 +27,7 @@ flooded-but skip {ranks} {N} {n} {t} {start} {class} {tail} {tail'} {w} {w'} e F
 
 -- where the whole queue is explored all that is reached from a marked dart is marked
 pub reached-marked : {keep : ℕ → Bool} {N n tail d e : ℕ} {t w : List ℕ} → Queue n tail w → Explored keep N n t 0 tail w → d < n → Marked w d
-    → Reached byRank keep N n t d e → (e < n) × Marked w e
+    → Reached byDart keep N n t d e → (e < n) × Marked w e
 reached-marked Q S h m Reached.here = (h, m)
 reached-marked Q S h m (Reached.onward {e} i hi k r) =
     let (l, y) = reached-marked Q S h m r in
@@ -35,8 +35,8 @@ reached-marked Q S h m (Reached.onward {e} i hi k r) =
     rw z at (S p (omega arith) hp i hi k)
 
 -- so nothing is marked of the orbit of a dart that is not
-pub orbit-unmarked : {keep : ℕ → Bool} {N n tail d e : ℕ} {t w : List ℕ} → Valid byRank N n t → Queue n tail w → Explored keep N n t 0 tail w → d < n
-    → getD w d 0 ≡ mark → Reached byRank keep N n t d e → Marked w e → ⊥
+pub orbit-unmarked : {keep : ℕ → Bool} {N n tail d e : ℕ} {t w : List ℕ} → Valid byDart N n t → Queue n tail w → Explored keep N n t 0 tail w → d < n
+    → getD w d 0 ≡ mark → Reached byDart keep N n t d e → Marked w e → ⊥
 orbit-unmarked v Q S h u r m =
     let C = valid-closed v in
     reached-marked Q S (reached-below C h r) m (reached-sym C h r) .1 u
@@ -68,12 +68,12 @@ module _ {keep : ℕ → Bool} {N n : ℕ} {t : List ℕ} {start class tail tail
   pub flooded-explored : Explored keep N n t 0 tail w → Explored keep N n t 0 tail' w'
   flooded-explored S p hf ht = go (decLt p tail)
     where
-      go : Dec (p < tail) → (i : ℕ) → i ≤ N → keep i ≡ true → (link byRank N n t i (queued n w' p) < n) × Marked w' (link byRank N n t i (queued n w' p))
+      go : Dec (p < tail) → (i : ℕ) → i ≤ N → keep i ≡ true → (link byDart N n t i (queued n w' p) < n) × Marked w' (link byDart N n t i (queued n w' p))
       go (yes h) = explored-on keep N n t flooded-on 0 tail (omega arith) S p hf h
       go (no h) = F .explored p (omega arith) ht
 
   -- where nothing was marked of the start's orbit, the queue from the old end up to the new one is that orbit
-  pub flooded-orbit : ((e : ℕ) → Reached byRank keep N n t start e → Marked w e → ⊥) → Orbit keep N n t start tail tail' w'
+  pub flooded-orbit : ((e : ℕ) → Reached byDart keep N n t start e → Marked w e → ⊥) → Orbit keep N n t start tail tail' w'
   flooded-orbit none = record {
     member = λ p h k. linked-reached (F .traced p h k);
     all = λ e r. let (p, h, k, z, l, m) = found r in (p, h, k, z);
@@ -81,14 +81,14 @@ module _ {keep : ℕ → Bool} {N n : ℕ} {t : List ℕ} {start class tail tail
   }
     where
       -- a marked dart of the orbit is new
-      new : {e : ℕ} → Reached byRank keep N n t start e → e < n → Marked w' e → (p : ℕ) × (tail ≤ p) × (p < tail') × (queued n w' p ≡ e) × (e < n) × Marked w' e
+      new : {e : ℕ} → Reached byDart keep N n t start e → e < n → Marked w' e → (p : ℕ) × (tail ≤ p) × (p < tail') × (queued n w' p ≡ e) × (e < n) × Marked w' e
       new {e} r l m = let (p, k, z) = flooded-on .queue .entered e l m in go p k z (decLt p tail)
         where
           go : (p : ℕ) → p < tail' → queued n w' p ≡ e → Dec (p < tail) → (p : ℕ) × (tail ≤ p) × (p < tail') × (queued n w' p ≡ e) × (e < n) × Marked w' e
           go p k z (no h) = (p, omega arith, k, z, l, m)
           go p k z (yes h) = absurd (none e r (old-marked p h z))
 
-      found : {e : ℕ} → Reached byRank keep N n t start e → (p : ℕ) × (tail ≤ p) × (p < tail') × (queued n w' p ≡ e) × (e < n) × Marked w' e
+      found : {e : ℕ} → Reached byDart keep N n t start e → (p : ℕ) × (tail ≤ p) × (p < tail') × (queued n w' p ≡ e) × (e < n) × Marked w' e
       found Reached.here = new Reached.here hs flooded-start
       found (Reached.onward i hi k r) =
           let (p, h, l, z, hx, mx) = found r in
@@ -96,5 +96,5 @@ module _ {keep : ℕ → Bool} {N n : ℕ} {t : List ℕ} {start class tail tail
           new (Reached.onward i hi k r) a b
 
   -- so it is in a valid map where what was marked is closed under the ranks kept and the start had no mark
-  pub flooded-new : Valid byRank N n t → Explored keep N n t 0 tail w → getD w start 0 ≡ mark → Orbit keep N n t start tail tail' w'
+  pub flooded-new : Valid byDart N n t → Explored keep N n t 0 tail w → getD w start 0 ≡ mark → Orbit keep N n t start tail tail' w'
   flooded-new v S u = flooded-orbit (λ e r m. orbit-unmarked v Q S hs u r m)

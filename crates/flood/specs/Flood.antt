@@ -7,7 +7,7 @@ use mathlib.Core.Bool.{Bool, true, _&&_, _||_, cond}
 use mathlib.Core.List.{List}
 use lib.ListN.{length, getD, set, drop}
 use lib.Dec.{eqb, ltb, leb}
-use Rattle.rules.specs.Map.{byRank, mark, link, Reached}
+use Rattle.rules.specs.Map.{byDart, mark, link, Reached}
 use Rattle.flood.specs.declared.Ranks.{Ranks}
 
 -- a set of ranks: those below `low` and those from `high` on
@@ -67,7 +67,8 @@ pub record Extended (n tail tail' : ℕ) (w w' : List ℕ) : Type 0 where
 -- the other class
 pub data Linked (keep : ℕ → Bool) (N n : ℕ) (t : List ℕ) (d c : ℕ) : ℕ → ℕ → Type 0 where
   here : Linked keep N n t d c d c
-  onward : {e m : ℕ} (i : ℕ) → i ≤ N → keep i ≡ true → link byRank N n t i e ≢ e → Linked keep N n t d c e m → Linked keep N n t d c (link byRank N n t i e) (1 - m)
+  onward : {e m : ℕ} (i : ℕ) → i ≤ N → keep i ≡ true → link byDart N n t i e ≢ e → Linked keep N n t d c e m
+      → Linked keep N n t d c (link byDart N n t i e) (1 - m)
 
 -- each dart of the queue from one place up to another is linked so from dart d
 abbrev pub Traced : (ℕ → Bool) → ℕ → ℕ → List ℕ → ℕ → ℕ → ℕ → ℕ → List ℕ → Type 0
@@ -75,7 +76,7 @@ Traced keep N n t d c from to w = (p : ℕ) → from ≤ p → p < to → Linked
 
 -- the links of the ranks kept lead from a dart to marked darts
 abbrev pub Around : (ℕ → Bool) → ℕ → ℕ → List ℕ → ℕ → List ℕ → Type 0
-Around keep N n t d w = (i : ℕ) → i ≤ N → keep i ≡ true → (link byRank N n t i d < n) × Marked w (link byRank N n t i d)
+Around keep N n t d w = (i : ℕ) → i ≤ N → keep i ≡ true → (link byDart N n t i d < n) × Marked w (link byDart N n t i d)
 
 -- they do so from each dart of the queue from one place up to another
 abbrev pub Explored : (ℕ → Bool) → ℕ → ℕ → List ℕ → ℕ → ℕ → List ℕ → Type 0
@@ -83,11 +84,11 @@ Explored keep N n t from to w = (p : ℕ) → from ≤ p → p < to → Around k
 
 -- the links of the ranks kept lead from a dart to darts
 abbrev pub LinksInside : (ℕ → Bool) → ℕ → ℕ → List ℕ → ℕ → Type 0
-LinksInside keep N n t d = (i : ℕ) → i ≤ N → keep i ≡ true → link byRank N n t i d < n
+LinksInside keep N n t d = (i : ℕ) → i ≤ N → keep i ≡ true → link byDart N n t i d < n
 
 -- all that is reached from a dart by links of the ranks kept is a dart
 abbrev pub OrbitInside : (ℕ → Bool) → ℕ → ℕ → List ℕ → ℕ → Type 0
-OrbitInside keep N n t d = (e : ℕ) → Reached byRank keep N n t d e → e < n
+OrbitInside keep N n t d = (e : ℕ) → Reached byDart keep N n t d e → e < n
 
 -- the links of the ranks kept have been followed from a dart: what is new was reached by them
 pub record SpreadFrom (keep : ℕ → Bool) (N n : ℕ) (t : List ℕ) (d tail tail' : ℕ) (w w' : List ℕ) : Type 0 where
@@ -110,6 +111,6 @@ pub record Flooded (keep : ℕ → Bool) (N n : ℕ) (t : List ℕ) (start class
 
 -- the queue from one place up to another is the orbit of a dart: it holds each dart that is reached by links of the ranks kept once, and no other
 pub record Orbit (keep : ℕ → Bool) (N n : ℕ) (t : List ℕ) (d from to : ℕ) (w : List ℕ) : Type 0 where
-  pub member : (p : ℕ) → from ≤ p → p < to → Reached byRank keep N n t d (queued n w p)
-  pub all : (e : ℕ) → Reached byRank keep N n t d e → (p : ℕ) × (from ≤ p) × (p < to) × (queued n w p ≡ e)
+  pub member : (p : ℕ) → from ≤ p → p < to → Reached byDart keep N n t d (queued n w p)
+  pub all : (e : ℕ) → Reached byDart keep N n t d e → (p : ℕ) × (from ≤ p) × (p < to) × (queued n w p ≡ e)
   pub once : (p q : ℕ) → from ≤ p → p < to → from ≤ q → q < to → queued n w p ≡ queued n w q → p ≡ q

@@ -4,7 +4,7 @@ use rules::Session;
 ghost use mathlib.Core.Path.{_≡_};
 ghost use Prim.Native.Nat.{ℕ, _+_, _*_, _-_, _≤_, _<_};
 ghost use lib.ListN.{length, getD};
-ghost use Rattle.rules.specs.Map.{byRank, Limits, link};
+ghost use Rattle.rules.specs.Map.{byDart, Limits, link};
 ghost use Rattle.flood.specs.Flood.{kept, runs, butOne, between, enteredRoom, enteredTail, Queue, LinksInside};
 ghost use Rattle.flood.specs.Flood.{OrbitInside, SpreadFrom, Flooding, Flooded};
 
@@ -60,10 +60,10 @@ pub fn enter_link(
     class: u16,
 ) -> usize
     requires { ⌜ Limits dim darts (now tables) × Queue darts tail (now work) × (rank ≤ dim) × (dart < darts)
-        × (link byRank dim darts (now tables) rank dart < darts) ⌝ }
-    ensures { λ r. ⌜ (r ≡ enteredTail (now (work .entry)) tail (link byRank dim darts (now (tables .entry)) rank dart))
+        × (link byDart dim darts (now tables) rank dart < darts) ⌝ }
+    ensures { λ r. ⌜ (r ≡ enteredTail (now (work .entry)) tail (link byDart dim darts (now (tables .entry)) rank dart))
         × (now (work .exit)
-        ≡ enteredRoom darts (now (work .entry)) tail (link byRank dim darts (now (tables .entry)) rank dart) class) ⌝ }
+        ≡ enteredRoom darts (now (work .entry)) tail (link byDart dim darts (now (tables .entry)) rank dart) class) ⌝ }
 {
     let x = tables::link_at(tables, dim, darts, rank, dart);
     enter(work, darts, tail, x, class)

@@ -4,7 +4,7 @@ use Prim.Native.Nat.{ℕ, _≤_}
 use mathlib.Core.Path.{_≡_}
 use mathlib.Core.List.{List, [], _∷_, _++_}
 use lib.ListN.{length}
-use Rattle.rules.specs.Map.{byRank}
+use Rattle.rules.specs.Map.{byDart}
 use Rattle.rules.specs.declared.Session.{Session}
 use Rattle.rules.specs.declared.PageAnswer.{PageAnswer}
 use Rattle.rules.specs.declared.ReadAnswer.{ReadAnswer}
@@ -22,7 +22,7 @@ use Rattle.lent.specs.Lent.{lentBy, pageLentBy}
 pub data LentPages : List (List ℕ) → PageLeft → PageLeft → Type 0 where
   none : {x : PageLeft} → LentPages [] x x
   more : {p : List ℕ} {ps : List (List ℕ)} {x z : PageLeft} (s : Session) (a : PageAnswer) (u : List ℕ)
-      → pageLentBy s a u ≡ pageCall byRank (x .session) p (x .tables) → LentPages ps (pageLentBy s a u) z → LentPages (p ∷ ps) x z
+      → pageLentBy s a u ≡ pageCall byDart (x .session) p (x .tables) → LentPages ps (pageLentBy s a u) z → LentPages (p ∷ ps) x z
 
 -- they are pages by value
 fed : {ps : List (List ℕ)} {x z : PageLeft} → LentPages ps x z → Fed ps x z
@@ -31,20 +31,20 @@ fed (LentPages.more s a u e f) = Fed.more (record { session = s; answer = a }) u
 
 -- after each page the lent record is the one for the bytes so far, and so are the answer with the bytes to fetch and the tables
 pub lent-record : (ps : List (List ℕ)) (t : List ℕ) (z : PageLeft) → LentPages ps (opening t) z → z ≡ record {
-  session = recordFor byRank (whole ps) t;
-  answer = record { reading = answerOf (readingOf byRank (unpack (whole ps)) t); fetch = fetchOf (recordFor byRank (whole ps) t) };
-  tables = tablesFor byRank (whole ps) t;
+  session = recordFor byDart (whole ps) t;
+  answer = record { reading = answerOf (readingOf byDart (unpack (whole ps)) t); fetch = fetchOf (recordFor byDart (whole ps) t) };
+  tables = tablesFor byDart (whole ps) t;
 }
 lent-record ps t z f = fed-record ps t z (fed f)
 
 -- and of an accepted stream at least as many bytes are left as the last answer says are to be fetched, and none where it says none
-pub lent-left : (ps : List (List ℕ)) (rest t : List ℕ) (z : PageLeft) → LentPages ps (opening t) z → readAnswer byRank (whole ps ++ rest) t .number ≡ 0
+pub lent-left : (ps : List (List ℕ)) (rest t : List ℕ) (z : PageLeft) → LentPages ps (opening t) z → readAnswer byDart (whole ps ++ rest) t .number ≡ 0
     → (z .answer .fetch ≤ length rest) × (z .answer .fetch ≡ 0 → rest ≡ [])
 lent-left ps rest t z f e = fed-left ps rest t z (fed f) e
 
 -- pages from open, then one call that meets the contract of `close`: answer and tables of one call that meets the contract of `read`
 pub lent-read : (ps : List (List ℕ)) (t : List ℕ) (z : PageLeft) → LentPages ps (opening t) z → (s : Session) (c : ReadAnswer) (v : List ℕ)
-    → lentBy s c v ≡ close byRank (z .session) (z .tables)
-    → (a : ReadAnswer) (u : List ℕ) → (a ≡ readAnswer byRank (whole ps) t) × (u ≡ readTables byRank (whole ps) t) → (c ≡ a) × (v ≡ u)
+    → lentBy s c v ≡ close byDart (z .session) (z .tables)
+    → (a : ReadAnswer) (u : List ℕ) → (a ≡ readAnswer byDart (whole ps) t) × (u ≡ readTables byDart (whole ps) t) → (c ≡ a) × (v ≡ u)
 unfolding leftBy
 lent-read ps t z f s c v e a u h = fed-read ps t z (fed f) (record { session = s; answer = c }) v e a u h

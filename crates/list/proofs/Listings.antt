@@ -5,7 +5,7 @@ use mathlib.Core.Logic.{_≢_}
 use mathlib.Core.List.{List}
 use lib.ListN.{length}
 use borrow.Author.Tests.{eq-eqb, ne-eqb}
-use Rattle.rules.specs.Map.{byRank}
+use Rattle.rules.specs.Map.{byDart}
 use Rattle.rules.specs.declared.ReadAnswer.{ReadAnswer}
 use Rattle.rules.specs.declared.ReportAnswer.{ReportAnswer}
 use Rattle.rules.specs.Check.{Verdict, verdict}
@@ -18,19 +18,19 @@ use Rattle.listing.specs.Listing.{refusalLine, mapText, textBy, listing}
 
 module _ (bytes t work : List ℕ) where
   abbrev answer : ReadAnswer
-  answer = readAnswer byRank bytes t
+  answer = readAnswer byDart bytes t
 
   abbrev tables : List ℕ
-  tables = readTables byRank bytes t
+  tables = readTables byDart bytes t
 
   abbrev report : ReportAnswer
-  report = reportAnswer byRank (answer .dim) (answer .darts) tables work
+  report = reportAnswer byDart (answer .dim) (answer .darts) tables work
 
   -- the check passes what a whole read accepts
-  fine : Bytes bytes → answer .number ≡ 0 → 2 * answer .darts ≤ length work → verdict byRank (answer .dim) (answer .darts) 0 tables (length work) ≡ Verdict.fine
+  fine : Bytes bytes → answer .number ≡ 0 → 2 * answer .darts ≤ length work → verdict byDart (answer .dim) (answer .darts) 0 tables (length work) ≡ Verdict.fine
   fine B e h =
-      let a = sound byRank bytes t B e in
-      passes-fine byRank _ _ _ _ _ (record {
+      let a = sound byDart bytes t B e in
+      passes-fine byDart _ _ _ _ _ (record {
         limits = record { dims = a .limits .dims; darts = a .limits .darts; room = a .room };
         work = h;
         valid = a .valid;
@@ -40,8 +40,8 @@ module _ (bytes t work : List ℕ) where
   -- an accepted stream lists its map, with the map's own cells and free pairs and whether it is orientable
   pub lists-map : Bytes bytes → answer .number ≡ 0 → 2 * answer .darts ≤ length work
       → listing answer report tables ≡ mapText (answer .dim) (answer .darts) (answer .steps)
-      (cellCounts byRank (answer .dim) (answer .darts) tables) (freePairs byRank (answer .dim) (answer .darts) tables)
-      (orientable byRank (answer .dim) (answer .darts) tables) tables
+      (cellCounts byDart (answer .dim) (answer .darts) tables) (freePairs byDart (answer .dim) (answer .darts) tables)
+      (orientable byDart (answer .dim) (answer .darts) tables) tables
   unfolding listing textBy reportAnswer reportAnswerOf
   lists-map B e h = rw (fine B e h, eq-eqb (answer .number) 0 e) refl
 

@@ -6,7 +6,7 @@ use lib.ListN.{getD}
 use lib.Dec.{eqb}
 use Rattle.rules.specs.declared.ReadAnswer.{ReadAnswer}
 use Rattle.rules.specs.declared.ReportAnswer.{ReportAnswer}
-use Rattle.rules.specs.Map.{byRank, link}
+use Rattle.rules.specs.Map.{byDart, link}
 use Rattle.words.specs.Words.{numeral, spaced, each, lineEnd}
 
 -- "dimension", N, "darts", n
@@ -17,7 +17,7 @@ firstLine N n =
 
 -- a0..aN of a dart
 unfoldable pub links : ℕ → ℕ → List ℕ → ℕ → List ℕ
-links N n t d = each (suc N) (λ i. spaced (link byRank N n t i d))
+links N n t d = each (suc N) (λ i. spaced (link byDart N n t i d))
 
 -- the dart, then a0..aN of it
 unfoldable pub dartLine : ℕ → ℕ → List ℕ → ℕ → List ℕ

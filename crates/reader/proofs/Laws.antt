@@ -19,7 +19,7 @@ use Rattle.rules.specs.declared.Stand.{Stand}
 use Rattle.records.specs.declared.Paged.{Paged}
 use Rattle.records.specs.declared.Fetching.{Fetching}
 use Rattle.rules.specs.declared.State.the-variants.{Header, Running, Complete, Closed, Refused}
-use Rattle.rules.specs.Map.{byRank, dimFits, size, blank, Limits}
+use Rattle.rules.specs.Map.{byDart, dimFits, size, blank, Limits}
 use Rattle.rules.specs.Walk.{Walk, start, steps}
 use Rattle.rules.specs.Stream.{bitsOf, value, unpack}
 use Rattle.rules.specs.Reading.{runAll, Reading, spoiled, settle, begun, headerDim, headerDarts, readHeader, readingOf, closing, goodAnswer, plainAnswer}
@@ -94,7 +94,7 @@ module _ (x y : ℕ) (hx : x < 256) (hy : y < 256) (rest : List Bool) where
 
   -- reading from two whole bytes on
   pub reading-begun : (t : List ℕ)
-      → readingOf byRank bits t ≡ begun byRank (dimFits (x / 16)) (leb (size (x / 16) (x % 16 * 256 + y + 1)) (length t)) (x / 16) (x % 16 * 256 + y + 1) rest t
+      → readingOf byDart bits t ≡ begun byDart (dimFits (x / 16)) (leb (size (x / 16) (x % 16 * 256 + y + 1)) (length t)) (x / 16) (x % 16 * 256 + y + 1) rest t
   unfolding readingOf readHeader
   reading-begun t =
       let l : leb 16 (length bits) ≡ true = le-leb 16 (length bits) (simp length-append (omega (arith, length-bits 8 x, length-bits 8 y))) in
@@ -108,31 +108,31 @@ refused-left r nr p t e f = λ i. record { session = e i; answer = f i; tables =
 
 -- the bits of a header that waits
 header-left : (r : Paged) (bits : List Bool) (t : List ℕ) → r .session ≡ idleBy Header (length bits) (value bits) → r .answer ≡ plainAnswer 0 0
-    → length bits < 16 → leftBy r t ≡ leaves (readingOf byRank bits t) t
+    → length bits < 16 → leftBy r t ≡ leaves (readingOf byDart bits t) t
 unfolding leftBy leaves readingOf readHeader
 header-left r bits t e f h = rw (lt-leb 16 (length bits) h) (unfold store idle answerOf tablesOf in λ i. record { session = e i; answer = f i; tables = t })
 
 -- a header that is in: 1, 3, or the walk
 module _ (r : Paged) (N n : ℕ) (bits : List Bool) (t : List ℕ) where
   pub begin-dim : r .session ≡ idleBy (Refused 1 0) 0 0 → r .answer ≡ plainAnswer 1 0 → dimFits N ≡ false
-      → leftBy r t ≡ leaves (begun byRank (dimFits N) (leb (size N n) (length t)) N n bits t) t
+      → leftBy r t ≡ leaves (begun byDart (dimFits N) (leb (size N n) (length t)) N n bits t) t
   unfolding begun
   begin-dim e f h = rw h (refused-left r 1 0 t e f)
 
   pub begin-room : r .session ≡ idleBy (Refused 3 0) 0 0 → r .answer ≡ plainAnswer 3 0 → dimFits N ≡ true → length t < size N n
-      → leftBy r t ≡ leaves (begun byRank (dimFits N) (leb (size N n) (length t)) N n bits t) t
+      → leftBy r t ≡ leaves (begun byDart (dimFits N) (leb (size N n) (length t)) N n bits t) t
   unfolding begun
   begin-room e f h l = rw (h, lt-leb (size N n) (length t) l) (refused-left r 3 0 t e f)
 
   pub begin-walk : (u : List ℕ) (c : Cursor) (page : List ℕ) (b : List ℕ) → b ≡ blank (size N n) t
-      → leftBy r u ≡ leaves (settle (runAll (walkAt byRank N n (stand 1 (replicate 7 0)) b) (atHand c page))) b
+      → leftBy r u ≡ leaves (settle (runAll (walkAt byDart N n (stand 1 (replicate 7 0)) b) (atHand c page))) b
       → atHand c page ≡ bits → (1 ≤ N) × (N ≤ 6) → (1 ≤ n) × (n ≤ 4096) → size N n ≤ length t
-      → leftBy r u ≡ leaves (begun byRank (dimFits N) (leb (size N n) (length t)) N n bits t) t
+      → leftBy r u ≡ leaves (begun byDart (dimFits N) (leb (size N n) (length t)) N n bits t) t
   unfolding begun
   begin-walk u c page b eb e ea hN hn l =
-      let w : walkAt byRank N n (stand 1 (replicate 7 0)) b ≡ start byRank N n t = rw eb (walk-start N n t (hn .0) (hn .1) (hN .1)) in
+      let w : walkAt byDart N n (stand 1 (replicate 7 0)) b ≡ start byDart N n t = rw eb (walk-start N n t (hn .0) (hn .1) (hN .1)) in
       rw (fits-dim N (hN .0) (hN .1), le-leb (size N n) (length t) l)
-      (e ∙ (rw (w, ea) (settle-same (runAll (start byRank N n t) bits) b t)))
+      (e ∙ (rw (w, ea) (settle-same (runAll (start byDart N n t) bits) b t)))
 
 -- a fresh cursor at a byte has the bits from there on
 pub fresh-hand : (at : ℕ) (page : List ℕ) → atHand (record { waiting = 0; value = 0; at = at; bit = 0 }) page ≡ unpack (drop at page)
@@ -154,14 +154,14 @@ waits-byte k (inl e) h = absurd (h e)
 waits-byte k (inr e) h = e
 
 pub header-none : (r : Paged) (s : Session) (page t : List ℕ) → s .waiting ≡ 0 → length page ≡ 0 → r .session ≡ idleBy Header 0 0
-    → r .answer ≡ plainAnswer 0 0 → leftBy r t ≡ leaves (readingOf byRank (waitingOf s ++ unpack page) t) t
+    → r .answer ≡ plainAnswer 0 0 → leftBy r t ≡ leaves (readingOf byDart (waitingOf s ++ unpack page) t) t
 unfolding unpack value
 header-none r s [] t z l e f = rw (waiting-none s z) (header-left r [] t e f (omega arith))
 header-none r s (x ∷ page) t z l e f = absurd (omega arith)
 
 pub header-one : (r : Paged) (s : Session) (page t : List ℕ) → s .waiting ≡ 0 → length page ≡ 1 → getD page 0 0 < 256
     → r .session ≡ idleBy Header 8 (getD page 0 0) → r .answer ≡ plainAnswer 0 0
-    → leftBy r t ≡ leaves (readingOf byRank (waitingOf s ++ unpack page) t) t
+    → leftBy r t ≡ leaves (readingOf byDart (waitingOf s ++ unpack page) t) t
 unfolding unpack
 header-one r s [] t z l b e f = absurd (omega arith)
 header-one r s (x ∷ []) t z l b e f =
@@ -170,7 +170,7 @@ header-one r s (x ∷ y ∷ page) t z l b e f = absurd (omega arith)
 
 pub header-kept : (r : Paged) (s : Session) (page t : List ℕ) → s .waiting ≡ 8 → length page ≡ 0 → s .value < 256 → r .session ≡ idleBy Header 8 (s .value)
     → r .answer ≡ plainAnswer 0 0
-    → leftBy r t ≡ leaves (readingOf byRank (waitingOf s ++ unpack page) t) t
+    → leftBy r t ≡ leaves (readingOf byDart (waitingOf s ++ unpack page) t) t
 unfolding unpack
 header-kept r s [] t z l b e f =
     rw (waiting-byte s z, append-nil)
@@ -179,14 +179,15 @@ header-kept r s (x ∷ page) t z l b e f = absurd (omega arith)
 
 pub header-two : (r : Paged) (s : Session) (page t u : List ℕ) → s .waiting ≡ 0 → 2 ≤ length page → getD page 0 0 < 256 → getD page 1 0 < 256
     → leftBy r u ≡ leaves (headed (getD page 0 0) (getD page 1 0) (unpack (drop 2 page)) t) t
-    → leftBy r u ≡ leaves (readingOf byRank (waitingOf s ++ unpack page) t) t
+    → leftBy r u ≡ leaves (readingOf byDart (waitingOf s ++ unpack page) t) t
 unfolding unpack headed
 header-two r s [] t u z l a b e = absurd (omega arith)
 header-two r s (x ∷ []) t u z l a b e = absurd (omega arith)
 header-two r s (x ∷ y ∷ page) t u z l a b e = rw (waiting-none s z, reading-begun x y a b (unpack page) t) e
 
 pub header-last : (r : Paged) (s : Session) (page t u : List ℕ) → s .waiting ≡ 8 → 1 ≤ length page → s .value < 256 → getD page 0 0 < 256
-    → leftBy r u ≡ leaves (headed (s .value) (getD page 0 0) (unpack (drop 1 page)) t) t → leftBy r u ≡ leaves (readingOf byRank (waitingOf s ++ unpack page) t) t
+    → leftBy r u ≡ leaves (headed (s .value) (getD page 0 0) (unpack (drop 1 page)) t) t
+    → leftBy r u ≡ leaves (readingOf byDart (waitingOf s ++ unpack page) t) t
 unfolding unpack headed
 header-last r s [] t u z l a b e = absurd (omega arith)
 header-last r s (y ∷ page) t u z l a b e = rw (waiting-byte s z, reading-begun (s .value) y a b (unpack page) t) e
@@ -230,11 +231,11 @@ pub by-state : {A : Type 0} (f : State → A) (s : Session) (st : State) (x : A)
 by-state f s st x q e = e ∙ ap f (sym q)
 
 -- a fit session with a walk
-module _ (s : Session) (t : List ℕ) (seven : length (s .positions) ≡ 7) (e : fit byRank s t ≡ true) where
+module _ (s : Session) (t : List ℕ) (seven : length (s .positions) ≡ 7) (e : fit byDart s t ≡ true) where
   pub header-bits : s .state ≡ Header → ((s .waiting ≡ 0) ⊎ (s .waiting ≡ 8)) × (s .value < 256)
-  header-bits q = go (fit-session byRank s t seven e)
+  header-bits q = go (fit-session byDart s t seven e)
     where
-      from : (r : Reading) → Fits byRank r → s ≡ store r → ((s .waiting ≡ 0) ⊎ (s .waiting ≡ 8)) × (s .value < 256)
+      from : (r : Reading) → Fits byDart r → s ≡ store r → ((s .waiting ≡ 0) ⊎ (s .waiting ≡ 8)) × (s .value < 256)
       from _ (Fits.header {bs} h) es = unfold store idle in bits h (ap (λ (x : Session). x .waiting) es) (ap (λ (x : Session). x .value) es)
         where
           bits : (length bs ≡ 0) ⊎ (length bs ≡ 8) → s .waiting ≡ length bs → s .value ≡ value bs → ((s .waiting ≡ 0) ⊎ (s .waiting ≡ 8)) × (s .value < 256)
@@ -244,22 +245,23 @@ module _ (s : Session) (t : List ℕ) (seven : length (s .positions) ≡ 7) (e :
       from _ (Fits.complete v d h n) es = unfold store held in other (s .state) Header Complete q (ap (λ (x : Session). x .state) es) (omega arith)
       from _ (Fits.refused {nr} {p} f) es = unfold store idle in other (s .state) Header (Refused nr p) q (ap (λ (x : Session). x .state) es) (omega arith)
 
-      go : FitSession byRank s t → ((s .waiting ≡ 0) ⊎ (s .waiting ≡ 8)) × (s .value < 256)
+      go : FitSession byDart s t → ((s .waiting ≡ 0) ⊎ (s .waiting ≡ 8)) × (s .value < 256)
       go (FitSession.reading r f o es et) = from r f es
       go (FitSession.closed z) = other (s .state) Header Closed q z (omega arith)
       go (FitSession.refused nr p z f) = other (s .state) Header (Refused nr p) q z (omega arith)
 
   -- a running one may go on
   pub running-ready : (page : List ℕ) → s .state ≡ Running → Ready (s .dim) (s .darts) (standOf s) (cursorOf s) t page
-  running-ready page q = go (fit-session byRank s t seven e)
+  running-ready page q = go (fit-session byDart s t seven e)
     where
-      from : (r : Reading) → Fits byRank r → s ≡ store r → t ≡ tablesOf r t → Ready (s .dim) (s .darts) (standOf s) (cursorOf s) t page
+      from : (r : Reading) → Fits byDart r → s ≡ store r → t ≡ tablesOf r t → Ready (s .dim) (s .darts) (standOf s) (cursorOf s) t page
       from _ (Fits.header {bs} h) es et = unfold store idle in other (s .state) Running Header q (ap (λ (x : Session). x .state) es) (omega arith)
       from _ (Fits.running {w} {bs} v d a) es et = unfold store tablesOf in walking es et
         where
           walking : s ≡ held Running w bs → t ≡ w .links → Ready (s .dim) (s .darts) (standOf s) (cursorOf s) t page
           walking es et =
-              let p : walkAt byRank (s .dim) (s .darts) (standOf s) t ≡ w = (λ i. walkOf byRank (es i) (et i)) ∙ walk-held byRank Running w bs (d .0) (v .shape) in
+              let p : walkAt byDart (s .dim) (s .darts) (standOf s) t ≡ w = (λ i. walkOf byDart (es i) (et i))
+              ∙ walk-held byDart Running w bs (d .0) (v .shape) in
               let b : bitsOf (s .waiting) (s .value) ≡ bs = unfold waitingOf in ap waitingOf es ∙ waiting-held Running w bs in
               let ed : s .dim ≡ w .dim = unfold held in ap (λ (x : Session). x .dim) es in
               let ew : s .waiting ≡ length bs = unfold held in ap (λ (x : Session). x .waiting) es in
@@ -274,27 +276,27 @@ module _ (s : Session) (t : List ℕ) (seven : length (s .positions) ≡ 7) (e :
       from _ (Fits.complete v d h n) es et = unfold store held in other (s .state) Running Complete q (ap (λ (x : Session). x .state) es) (omega arith)
       from _ (Fits.refused {nr} {p} f) es et = unfold store idle in other (s .state) Running (Refused nr p) q (ap (λ (x : Session). x .state) es) (omega arith)
 
-      go : FitSession byRank s t → Ready (s .dim) (s .darts) (standOf s) (cursorOf s) t page
+      go : FitSession byDart s t → Ready (s .dim) (s .darts) (standOf s) (cursorOf s) t page
       go (FitSession.reading r f o es et) = from r f es et
       go (FitSession.closed z) = other (s .state) Running Closed q z (omega arith)
       go (FitSession.refused nr p z f) = other (s .state) Running (Refused nr p) q z (omega arith)
 
   -- a complete one is within the limits and its room
   pub complete-limits : s .state ≡ Complete → Limits (s .dim) (s .darts) t
-  complete-limits q = go (fit-session byRank s t seven e)
+  complete-limits q = go (fit-session byDart s t seven e)
     where
       within : 1 ≤ s .dim → Limits (s .dim) (s .darts) t
       within d =
-          let h : Shape (walkOf byRank s t) = fit-shape byRank s t seven (inr q) e in
+          let h : Shape (walkOf byDart s t) = fit-shape byDart s t seven (inr q) e in
           unfold walkAt in record { dims = (d, h .ranks); darts = (omega (arith, h .some, h .within), h .small); room = h .table }
 
-      from : (r : Reading) → Fits byRank r → s ≡ store r → Limits (s .dim) (s .darts) t
+      from : (r : Reading) → Fits byDart r → s ≡ store r → Limits (s .dim) (s .darts) t
       from _ (Fits.header {bs} h) es = unfold store idle in other (s .state) Complete Header q (ap (λ (x : Session). x .state) es) (omega arith)
       from _ (Fits.running v d a) es = unfold store held in other (s .state) Complete Running q (ap (λ (x : Session). x .state) es) (omega arith)
       from _ (Fits.complete {w} v d h n) es = unfold store held in within (omega (arith, d, ap (λ (x : Session). x .dim) es))
       from _ (Fits.refused {nr} {p} f) es = unfold store idle in other (s .state) Complete (Refused nr p) q (ap (λ (x : Session). x .state) es) (omega arith)
 
-      go : FitSession byRank s t → Limits (s .dim) (s .darts) t
+      go : FitSession byDart s t → Limits (s .dim) (s .darts) t
       go (FitSession.reading r f o es et) = from r f es
       go (FitSession.closed z) = other (s .state) Complete Closed q z (omega arith)
       go (FitSession.refused nr p z f) = other (s .state) Complete (Refused nr p) q z (omega arith)
@@ -314,16 +316,16 @@ running-may s k ek t page y at h =
 
 -- calls on the walk of a record
 module _ (r : Paged) (s : Session) (k : Stand) (ek : k ≡ standOf s) (t : List ℕ) where
-  walk-of : walkAt byRank (s .dim) (s .darts) k t ≡ walkOf byRank s t
-  walk-of = ap (λ (x : Stand). walkAt byRank (s .dim) (s .darts) x t) ek
+  walk-of : walkAt byDart (s .dim) (s .darts) k t ≡ walkOf byDart s t
+  walk-of = ap (λ (x : Stand). walkAt byDart (s .dim) (s .darts) x t) ek
 
-  pub running-goes : (page u : List ℕ) → leftBy r u ≡ leaves (settle (runAll (walkAt byRank (s .dim) (s .darts) k t) (atHand (cursorOf s) page))) t
-      → leftBy r u ≡ leaves (goOn byRank s (unpack page) t) t
+  pub running-goes : (page u : List ℕ) → leftBy r u ≡ leaves (settle (runAll (walkAt byDart (s .dim) (s .darts) k t) (atHand (cursorOf s) page))) t
+      → leftBy r u ≡ leaves (goOn byDart s (unpack page) t) t
   unfolding goOn atHand waitingOf
   running-goes page u e = rw walk-of at e
 
   pub closed-left : r .session ≡ heldBy Closed (s .dim) (s .darts) k 0 0 → r .answer ≡ goodBy (s .dim) (s .darts) k
-      → leftBy r t ≡ leaves (closing (Reading.complete (walkOf byRank s t)) t) t
+      → leftBy r t ≡ leaves (closing (Reading.complete (walkOf byDart s t)) t) t
   unfolding leftBy leaves closing store held answerOf goodAnswer tablesOf steps walkAt value
   closed-left e f = λ i. record {
     session = (e ∙ ap (λ (x : Stand). heldBy Closed (s .dim) (s .darts) x 0 0) ek) i;
@@ -332,22 +334,22 @@ module _ (r : Paged) (s : Session) (k : Stand) (ek : k ≡ standOf s) (t : List 
   }
 
   pub complete-none : (page : List ℕ) → length page ≡ 0 → r .session ≡ heldBy Complete (s .dim) (s .darts) k 0 0 → r .answer ≡ goodBy (s .dim) (s .darts) k
-      → leftBy r t ≡ leaves (afterEnd (walkOf byRank s t) (unpack page)) t
+      → leftBy r t ≡ leaves (afterEnd (walkOf byDart s t) (unpack page)) t
   unfolding unpack afterEnd
   complete-none [] l e f = rw walk-of at (complete-left (s .dim) (s .darts) k t r f e)
   complete-none (x ∷ page) l e f = absurd (omega arith)
 
-  pub complete-more : (page u : List ℕ) → length page ≢ 0 → leftBy r u ≡ leaves (spoiled 18 (walkAt byRank (s .dim) (s .darts) k t)) t
-      → leftBy r u ≡ leaves (afterEnd (walkOf byRank s t) (unpack page)) t
+  pub complete-more : (page u : List ℕ) → length page ≢ 0 → leftBy r u ≡ leaves (spoiled 18 (walkAt byDart (s .dim) (s .darts) k t)) t
+      → leftBy r u ≡ leaves (afterEnd (walkOf byDart s t) (unpack page)) t
   unfolding unpack
   complete-more [] u l e = absurd (l refl)
   complete-more (x ∷ page) u l e =
-      let m : afterEnd (walkOf byRank s t) (bitsOf 8 x ++ unpack page) ≡ spoiled 18 (walkOf byRank s t) =
-      after-more (walkOf byRank s t) (bitsOf 8 x ++ unpack page) (simp length-append (omega (arith, length-bits 8 x))) in
+      let m : afterEnd (walkOf byDart s t) (bitsOf 8 x ++ unpack page) ≡ spoiled 18 (walkOf byDart s t) =
+      after-more (walkOf byDart s t) (bitsOf 8 x ++ unpack page) (simp length-append (omega (arith, length-bits 8 x))) in
       rw m (rw walk-of at e)
 
-  pub close-running : (u : List ℕ) → leftBy r u ≡ leaves (spoiled 11 (walkAt byRank (s .dim) (s .darts) k t)) t
-      → leftBy r u ≡ leaves (closing (Reading.running (walkOf byRank s t) (waitingOf s)) t) t
+  pub close-running : (u : List ℕ) → leftBy r u ≡ leaves (spoiled 11 (walkAt byDart (s .dim) (s .darts) k t)) t
+      → leftBy r u ≡ leaves (closing (Reading.running (walkOf byDart s t) (waitingOf s)) t) t
   unfolding closing
   close-running u e = rw walk-of at e
 
@@ -387,19 +389,19 @@ header-fetches r k v (e, f) t h =
 
 -- the two calls, fit and not
 module _ (s : Session) (t : List ℕ) (x : Left) where
-  page-as : (bytes : List ℕ) → fit byRank s t ≡ true → x ≡ pageAs byRank (s .state) s (unpack bytes) t → x ≡ page byRank s bytes t
+  page-as : (bytes : List ℕ) → fit byDart s t ≡ true → x ≡ pageAs byDart (s .state) s (unpack bytes) t → x ≡ page byDart s bytes t
   unfolding page ifFit
   page-as bytes h e = rw h e
 
-  page-unfit : (bytes : List ℕ) → fit byRank s t ≡ false → x ≡ unchanged s t (plainAnswer 19 0) → x ≡ page byRank s bytes t
+  page-unfit : (bytes : List ℕ) → fit byDart s t ≡ false → x ≡ unchanged s t (plainAnswer 19 0) → x ≡ page byDart s bytes t
   unfolding page ifFit
   page-unfit bytes h e = rw h e
 
-  pub close-as : fit byRank s t ≡ true → x ≡ closeAs byRank (s .state) s t → x ≡ close byRank s t
+  pub close-as : fit byDart s t ≡ true → x ≡ closeAs byDart (s .state) s t → x ≡ close byDart s t
   unfolding close ifFit
   close-as h e = rw h e
 
-  pub close-unfit : fit byRank s t ≡ false → x ≡ unchanged s t (plainAnswer 19 0) → x ≡ close byRank s t
+  pub close-unfit : fit byDart s t ≡ false → x ≡ unchanged s t (plainAnswer 19 0) → x ≡ close byDart s t
   unfolding close ifFit
   close-unfit h e = rw h e
 
@@ -411,14 +413,14 @@ module _ (s : Session) (t : List ℕ) (r : Fetching) (u bytes : List ℕ) where
       (λ i. record { session = r .session; answer = record { reading = r .answer .reading; fetch = q i }; tables = u })
       ∙ ap (λ (y : Left). fetching y f) e
 
-  pub page-called : fit byRank s t ≡ true → Fetches r u (pageAs byRank (s .state) s (unpack bytes) t) → fetchedBy r u ≡ pageCall byRank s bytes t
+  pub page-called : fit byDart s t ≡ true → Fetches r u (pageAs byDart (s .state) s (unpack bytes) t) → fetchedBy r u ≡ pageCall byDart s bytes t
   unfolding pageCall leftBy
   page-called h e =
       let q = page-as s t (leftBy (readBy r) u) bytes h (e .left) in
-      rw h (called q (fetchOf (page byRank s bytes t .session)) (e .fetch ∙ ap (λ (y : Left). fetchOf (y .session)) q))
+      rw h (called q (fetchOf (page byDart s bytes t .session)) (e .fetch ∙ ap (λ (y : Left). fetchOf (y .session)) q))
 
-  pub page-refused : fit byRank s t ≡ false → (p : Paged) → (readBy r ≡ p) × (r .answer .fetch ≡ 0) → leftBy p u ≡ unchanged s t (plainAnswer 19 0)
-      → fetchedBy r u ≡ pageCall byRank s bytes t
+  pub page-refused : fit byDart s t ≡ false → (p : Paged) → (readBy r ≡ p) × (r .answer .fetch ≡ 0) → leftBy p u ≡ unchanged s t (plainAnswer 19 0)
+      → fetchedBy r u ≡ pageCall byDart s bytes t
   unfolding pageCall
   page-refused h p (e, f) q = rw h (called (page-unfit s t (leftBy (readBy r) u) bytes h (ap (λ (y : Paged). leftBy y u) e ∙ q)) 0 f)
 
@@ -427,26 +429,26 @@ pub opened-bits : (s : Session) → s ≡ opened → ((s .waiting ≡ 0) ⊎ (s 
 opened-bits s e = (inl (ap (λ (x : Session). x .waiting) e), omega (arith, ap (λ (x : Session). x .value) e))
 
 -- a whole read: the record and the tables for all the bytes, closed
-module _ (r : Paged) (bytes t u : List ℕ) (o : Session) (eo : o ≡ opened) (e : leftBy r u ≡ leaves (readingOf byRank (waitingOf o ++ unpack bytes) t) t) where
-  all-read : leftBy r u ≡ leaves (readingOf byRank (unpack bytes) t) t
-  all-read = e ∙ ap (λ (s : Session). leaves (readingOf byRank (waitingOf s ++ unpack bytes) t) t) eo ∙ rw (waiting-none opened refl)
+module _ (r : Paged) (bytes t u : List ℕ) (o : Session) (eo : o ≡ opened) (e : leftBy r u ≡ leaves (readingOf byDart (waitingOf o ++ unpack bytes) t) t) where
+  all-read : leftBy r u ≡ leaves (readingOf byDart (unpack bytes) t) t
+  all-read = e ∙ ap (λ (s : Session). leaves (readingOf byDart (waitingOf s ++ unpack bytes) t) t) eo ∙ rw (waiting-none opened refl)
 
-  record-read : r .session ≡ recordFor byRank bytes t
+  record-read : r .session ≡ recordFor byDart bytes t
   unfolding leftBy leaves recordFor
   record-read = ap (λ (x : Left). x .session) all-read
 
-  tables-read : u ≡ tablesFor byRank bytes t
+  tables-read : u ≡ tablesFor byDart bytes t
   unfolding leftBy leaves tablesFor
   tables-read = ap (λ (x : Left). x .tables) all-read
 
-  pub read-fit : fit byRank (r .session) u ≡ true
-  read-fit = (λ i. fit byRank (record-read i) (tables-read i)) ∙ record-fit byRank bytes t
+  pub read-fit : fit byDart (r .session) u ≡ true
+  read-fit = (λ i. fit byDart (record-read i) (tables-read i)) ∙ record-fit byDart bytes t
 
-  pub read-closed : (q : Paged) (v : List ℕ) → leftBy q v ≡ closeAs byRank (r .session .state) (r .session) u
-      → (q .answer ≡ readAnswer byRank bytes t) × (v ≡ readTables byRank bytes t)
+  pub read-closed : (q : Paged) (v : List ℕ) → leftBy q v ≡ closeAs byDart (r .session .state) (r .session) u
+      → (q .answer ≡ readAnswer byDart bytes t) × (v ≡ readTables byDart bytes t)
   unfolding leftBy
   read-closed q v f =
-      let g : record { session = q .session; answer = q .answer; tables = v } ≡ close byRank (recordFor byRank bytes t) (tablesFor byRank bytes t) =
-      close-as (r .session) u (leftBy q v) read-fit f ∙ (λ i. close byRank (record-read i) (tables-read i)) in
-      let c = close-reads byRank bytes t in
+      let g : record { session = q .session; answer = q .answer; tables = v } ≡ close byDart (recordFor byDart bytes t) (tablesFor byDart bytes t) =
+      close-as (r .session) u (leftBy q v) read-fit f ∙ (λ i. close byDart (record-read i) (tables-read i)) in
+      let c = close-reads byDart bytes t in
       (ap (λ (x : Left). x .answer) g ∙ c .0, ap (λ (x : Left). x .tables) g ∙ c .1)

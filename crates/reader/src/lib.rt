@@ -12,7 +12,7 @@ ghost use mathlib.Core.Logic.{_⊎_};
 ghost use mathlib.Core.List.{_++_};
 ghost use Prim.Native.Nat.{_-_, _≤_, _<_};
 ghost use lib.ListN.{length, drop};
-ghost use Rattle.rules.specs.Map.{byRank, Limits};
+ghost use Rattle.rules.specs.Map.{byDart, Limits};
 ghost use Rattle.rules.specs.Stream.{unpack};
 ghost use Rattle.rules.specs.Reading.{plainAnswer, readAnswer, readTables, readingOf};
 ghost use Rattle.rules.specs.Session.{leaves, waitingOf, walkOf, goOn, afterEnd, pageAs, closeAs, standOf};
@@ -70,7 +70,7 @@ pub fn header_waits(waiting: u16, value: u16) -> Fetching
 pub fn page_header(s: Session, page: &[u8], tables: &mut [u16]) -> Fetching
     requires { ⌜ ((s .waiting ≡ 0) ⊎ (s .waiting ≡ 8)) × (s .value < 256) ⌝ }
     ensures { λ r. let t = now (tables .entry) in ⌜ Fetches r (now (tables .exit))
-        (leaves (readingOf byRank (waitingOf s ++ unpack (now (page .entry))) t) t) ⌝ }
+        (leaves (readingOf byDart (waitingOf s ++ unpack (now (page .entry))) t) t) ⌝ }
 {
     if s.waiting == 0 {
         if page.len() == 0 {
@@ -91,7 +91,7 @@ pub fn page_header(s: Session, page: &[u8], tables: &mut [u16]) -> Fetching
 pub fn page_running(s: Session, page: &[u8], tables: &mut [u16]) -> Fetching
     requires { ⌜ Ready (s .dim) (s .darts) (standOf s) (cursorOf s) (now tables) (now page) ⌝ }
     ensures { λ r. let t = now (tables .entry) in ⌜ Fetches r (now (tables .exit))
-        (leaves (goOn byRank s (unpack (now (page .entry))) t) t) ⌝ }
+        (leaves (goOn byDart s (unpack (now (page .entry))) t) t) ⌝ }
 {
     let stand = rules::stand_of(s);
     let c = Cursor {
@@ -107,7 +107,7 @@ pub fn page_running(s: Session, page: &[u8], tables: &mut [u16]) -> Fetching
 pub fn page_complete(s: Session, page: &[u8], tables: &mut [u16]) -> Paged
     requires { ⌜ Limits (s .dim) (s .darts) (now tables) ⌝ }
     ensures { λ r. let t = now (tables .entry) in ⌜ leftBy r (now (tables .exit))
-        ≡ leaves (afterEnd (walkOf byRank s t) (unpack (now (page .entry)))) t ⌝ }
+        ≡ leaves (afterEnd (walkOf byDart s t) (unpack (now (page .entry)))) t ⌝ }
 {
     let stand = rules::stand_of(s);
     if page.len() == 0 {
@@ -125,8 +125,8 @@ pub fn page_complete(s: Session, page: &[u8], tables: &mut [u16]) -> Paged
 
 // A page on a fit session, by its state.
 pub fn page_fit(s: Session, page: &[u8], tables: &mut [u16]) -> Fetching
-    requires { ⌜ Rattle.rules.specs.Session.fit byRank s (now tables) ≡ true ⌝ }
-    ensures { λ r. ⌜ Fetches r (now (tables .exit)) (pageAs byRank (s .state) s (unpack (now (page .entry)))
+    requires { ⌜ Rattle.rules.specs.Session.fit byDart s (now tables) ≡ true ⌝ }
+    ensures { λ r. ⌜ Fetches r (now (tables .exit)) (pageAs byDart (s .state) s (unpack (now (page .entry)))
         (now (tables .entry))) ⌝ }
 {
     let state = s.state;
@@ -141,8 +141,8 @@ pub fn page_fit(s: Session, page: &[u8], tables: &mut [u16]) -> Fetching
 
 // Closing a fit session, by its state.
 pub fn close_fit(s: Session, tables: &mut [u16]) -> Paged
-    requires { ⌜ Rattle.rules.specs.Session.fit byRank s (now tables) ≡ true ⌝ }
-    ensures { λ r. ⌜ leftBy r (now (tables .exit)) ≡ closeAs byRank (s .state) s (now (tables .entry)) ⌝ }
+    requires { ⌜ Rattle.rules.specs.Session.fit byDart s (now tables) ≡ true ⌝ }
+    ensures { λ r. ⌜ leftBy r (now (tables .exit)) ≡ closeAs byDart (s .state) s (now (tables .entry)) ⌝ }
 {
     let state = s.state;
     let stand = rules::stand_of(s);
@@ -164,7 +164,7 @@ pub fn close_fit(s: Session, tables: &mut [u16]) -> Paged
 
 // The page call.
 pub fn page(s: Session, bytes: &[u8], tables: &mut [u16]) -> Fetching
-    ensures { λ r. ⌜ fetchedBy r (now (tables .exit)) ≡ pageCall byRank s (now (bytes .entry)) (now (tables .entry)) ⌝ }
+    ensures { λ r. ⌜ fetchedBy r (now (tables .exit)) ≡ pageCall byDart s (now (bytes .entry)) (now (tables .entry)) ⌝ }
 {
     if fitness::fit(s, tables) {
         return page_fit(s, bytes, tables);
@@ -174,7 +174,7 @@ pub fn page(s: Session, bytes: &[u8], tables: &mut [u16]) -> Fetching
 
 // The close call.
 pub fn close(s: Session, tables: &mut [u16]) -> Paged
-    ensures { λ r. ⌜ leftBy r (now (tables .exit)) ≡ Rattle.rules.specs.Session.close byRank s (now (tables .entry)) ⌝ }
+    ensures { λ r. ⌜ leftBy r (now (tables .exit)) ≡ Rattle.rules.specs.Session.close byDart s (now (tables .entry)) ⌝ }
 {
     if fitness::fit(s, tables) {
         return close_fit(s, tables);
@@ -184,8 +184,8 @@ pub fn close(s: Session, tables: &mut [u16]) -> Paged
 
 // One whole read: a page of all the bytes on a new session, then closing. Such a session is fit, so that isn't tested.
 pub fn read(bytes: &[u8], tables: &mut [u16]) -> ReadAnswer
-    ensures { λ r. ⌜ (r ≡ readAnswer byRank (now (bytes .entry)) (now (tables .entry)))
-        × (now (tables .exit) ≡ readTables byRank (now (bytes .entry)) (now (tables .entry))) ⌝ }
+    ensures { λ r. ⌜ (r ≡ readAnswer byDart (now (bytes .entry)) (now (tables .entry)))
+        × (now (tables .exit) ≡ readTables byDart (now (bytes .entry)) (now (tables .entry))) ⌝ }
 {
     let first = page_header(Session::open(), bytes, tables);
     let s = first.session;

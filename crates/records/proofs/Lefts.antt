@@ -12,7 +12,7 @@ use Rattle.rules.specs.declared.Session.{Session}
 use Rattle.rules.specs.declared.ReadAnswer.{ReadAnswer}
 use Rattle.rules.specs.declared.State.the-variants as state
 use Rattle.rules.specs.Lists.{sum}
-use Rattle.rules.specs.Map.{byRank, Limits, blank, pairsOf, firstBroken}
+use Rattle.rules.specs.Map.{byDart, Limits, blank, pairsOf, firstBroken}
 use Rattle.rules.specs.Walk.{Walk, linkOf, steps}
 use Rattle.rules.specs.Inner.{gone}
 use Rattle.rules.proofs.Positions.{over}
@@ -43,7 +43,7 @@ answer-steps N n s e = λ i. record { number = 0; place = 0; steps = e i; dim = 
 
 -- refused, and the map's entries are the mark
 pub spoiled-left : (nr N n : ℕ) (s : Stand) (t t' : List ℕ) (r : Paged) (p : ℕ) → p ≡ sum (s .positions) → t' ≡ blank ((N + 1) * n) t
-    → (r .session ≡ idleBy (state.Refused nr p) 0 0) × (r .answer ≡ plainAnswer nr p) → leftBy r t' ≡ leaves (spoiled nr (walkAt byRank N n s t)) t
+    → (r .session ≡ idleBy (state.Refused nr p) 0 0) × (r .answer ≡ plainAnswer nr p) → leftBy r t' ≡ leaves (spoiled nr (walkAt byDart N n s t)) t
 unfolding leaves store idle answerOf tablesOf spoiled steps walkAt value
 spoiled-left nr N n s t t' r p ep et h =
     let k : (N + 1) * n ≡ suc N * n = ap (λ (x : ℕ). x * n) (omega arith) in
@@ -54,13 +54,13 @@ spoiled-left nr N n s t t' r p ep et h =
 
 -- a walk is held
 module _ (N n : ℕ) (s : Stand) (t : List ℕ) (r : Paged) (answers : r .answer ≡ goodBy N n s) where
-  pub complete-left : r .session ≡ heldBy state.Complete N n s 0 0 → leftBy r t ≡ leaves (Reading.complete (walkAt byRank N n s t)) t
+  pub complete-left : r .session ≡ heldBy state.Complete N n s 0 0 → leftBy r t ≡ leaves (Reading.complete (walkAt byDart N n s t)) t
   unfolding leaves store held answerOf goodAnswer tablesOf steps walkAt value
   complete-left e =
       left-of r t (heldBy state.Complete N n s 0 0) (goodBy N n s) t e answers refl
 
   pub running-left : (bs : List Bool) (k v : ℕ) → k ≡ length bs → v ≡ value bs → r .session ≡ heldBy state.Running N n s k v
-      → leftBy r t ≡ leaves (Reading.running (walkAt byRank N n s t) bs) t
+      → leftBy r t ≡ leaves (Reading.running (walkAt byDart N n s t) bs) t
   unfolding leaves store held answerOf goodAnswer tablesOf steps walkAt
   running-left bs k v ek ev e =
       left-of r t (heldBy state.Running N n s (length bs) (value bs)) (goodBy N n s) t
@@ -68,42 +68,43 @@ module _ (N n : ℕ) (s : Stand) (t : List ℕ) (r : Paged) (answers : r .answer
 
 -- the walk's end, test by test
 module _ (N n : ℕ) (s : Stand) (t : List ℕ) (bs : List Bool) (r : Paged) (t' : List ℕ) where
-  way-15 : s .count ≢ n → finish (walkAt byRank N n s t) bs ≡ spoiled 15 (walkAt byRank N n s t)
+  way-15 : s .count ≢ n → finish (walkAt byDart N n s t) bs ≡ spoiled 15 (walkAt byDart N n s t)
   unfolding finish test walkAt
   way-15 h = rw (ne-eqb (s .count) n h)
 
-  pub end-15 : s .count ≢ n → leftBy r t' ≡ leaves (spoiled 15 (walkAt byRank N n s t)) t → leftBy r t' ≡ leaves (finish (walkAt byRank N n s t) bs) t
+  pub end-15 : s .count ≢ n → leftBy r t' ≡ leaves (spoiled 15 (walkAt byDart N n s t)) t → leftBy r t' ≡ leaves (finish (walkAt byDart N n s t) bs) t
   end-15 h e = e ∙ ap (λ (x : Reading). leaves x t) (sym (way-15 h))
 
-  module _ (all : s .count ≡ n) (b : ℕ) (eb : b ≡ firstBroken byRank N n t (pairsOf N)) where
-    way-16 : b ≢ n → finish (walkAt byRank N n s t) bs ≡ spoiled 16 (walkAt byRank N n s t)
+  module _ (all : s .count ≡ n) (b : ℕ) (eb : b ≡ firstBroken byDart N n t (pairsOf N)) where
+    way-16 : b ≢ n → finish (walkAt byDart N n s t) bs ≡ spoiled 16 (walkAt byDart N n s t)
     unfolding finish test walkAt manifold
     way-16 h = rw (eq-eqb (s .count) n all, ← eb, ne-eqb b n h)
 
-    pub end-16 : b ≢ n → leftBy r t' ≡ leaves (spoiled 16 (walkAt byRank N n s t)) t → leftBy r t' ≡ leaves (finish (walkAt byRank N n s t) bs) t
+    pub end-16 : b ≢ n → leftBy r t' ≡ leaves (spoiled 16 (walkAt byDart N n s t)) t → leftBy r t' ≡ leaves (finish (walkAt byDart N n s t) bs) t
     end-16 h e = e ∙ ap (λ (x : Reading). leaves x t) (sym (way-16 h))
 
     module _ (whole : b ≡ n) (f : Bool) (ef : not f ≡ eqb (value (take (length bs % 8) bs)) 0) where
-      way-17 : f ≡ true → finish (walkAt byRank N n s t) bs ≡ spoiled 17 (walkAt byRank N n s t)
+      way-17 : f ≡ true → finish (walkAt byDart N n s t) bs ≡ spoiled 17 (walkAt byDart N n s t)
       unfolding finish test walkAt manifold
       way-17 h = rw (eq-eqb (s .count) n all, ← eb, eq-eqb b n whole, ← ef, h)
 
-      pub end-17 : f ≡ true → leftBy r t' ≡ leaves (spoiled 17 (walkAt byRank N n s t)) t → leftBy r t' ≡ leaves (finish (walkAt byRank N n s t) bs) t
+      pub end-17 : f ≡ true → leftBy r t' ≡ leaves (spoiled 17 (walkAt byDart N n s t)) t → leftBy r t' ≡ leaves (finish (walkAt byDart N n s t) bs) t
       end-17 h e = e ∙ ap (λ (x : Reading). leaves x t) (sym (way-17 h))
 
       module _ (zero : f ≡ false) (g : Bool) (eg : not g ≡ eqb (length bs / 8) 0) where
-        way-18 : g ≡ true → finish (walkAt byRank N n s t) bs ≡ spoiled 18 (walkAt byRank N n s t)
+        way-18 : g ≡ true → finish (walkAt byDart N n s t) bs ≡ spoiled 18 (walkAt byDart N n s t)
         unfolding finish test walkAt manifold
         way-18 h = rw (eq-eqb (s .count) n all, ← eb, eq-eqb b n whole, ← ef, zero, ← eg, h)
 
-        pub end-18 : g ≡ true → leftBy r t' ≡ leaves (spoiled 18 (walkAt byRank N n s t)) t → leftBy r t' ≡ leaves (finish (walkAt byRank N n s t) bs) t
+        pub end-18 : g ≡ true → leftBy r t' ≡ leaves (spoiled 18 (walkAt byDart N n s t)) t → leftBy r t' ≡ leaves (finish (walkAt byDart N n s t) bs) t
         end-18 h e = e ∙ ap (λ (x : Reading). leaves x t) (sym (way-18 h))
 
-        way-complete : g ≡ false → finish (walkAt byRank N n s t) bs ≡ Reading.complete (walkAt byRank N n s t)
+        way-complete : g ≡ false → finish (walkAt byDart N n s t) bs ≡ Reading.complete (walkAt byDart N n s t)
         unfolding finish test walkAt manifold
         way-complete h = rw (eq-eqb (s .count) n all, ← eb, eq-eqb b n whole, ← ef, zero, ← eg, h)
 
-        pub end-complete : g ≡ false → leftBy r t' ≡ leaves (Reading.complete (walkAt byRank N n s t)) t → leftBy r t' ≡ leaves (finish (walkAt byRank N n s t) bs) t
+        pub end-complete : g ≡ false → leftBy r t' ≡ leaves (Reading.complete (walkAt byDart N n s t)) t
+            → leftBy r t' ≡ leaves (finish (walkAt byDart N n s t) bs) t
         end-complete h e = e ∙ ap (λ (x : Reading). leaves x t) (sym (way-complete h))
 
 -- where a run leaves off, by its signal
@@ -150,7 +151,7 @@ module _ (N n : ℕ) (s : Stand) (c : Cursor) (t page : List ℕ) (dims : 1 ≤ 
   unfolding walkAt runAll signalRun linkOf gone
   run-inside e q = record {
     inside = λ i d hi hd.
-        let w = walkAt byRank N n (r .stand) t' in
+        let w = walkAt byDart N n (r .stand) t' in
         let v = h .inv in
         let o = ran-ended _ _ _ w _ (sym (rw e at (h .tells))) .1 in
         let k = v .links .behind i d hi (omega (arith, over w (v .shape) o i hi)) in
@@ -165,5 +166,5 @@ module _ (N n : ℕ) (s : Stand) (c : Cursor) (t page : List ℕ) (dims : 1 ≤ 
     short = h .short;
   }
 
-  pub run-left : (l : Left) → l ≡ leaves (settle (toldRun N n r t' page)) t' → l ≡ leaves (settle (runAll (walkAt byRank N n s t) (atHand c page))) t
-  run-left l e = e ∙ (ap (λ (x : Run). leaves (settle x) t') (h .tells) ∙ settle-same (runAll (walkAt byRank N n s t) (atHand c page)) t' t)
+  pub run-left : (l : Left) → l ≡ leaves (settle (toldRun N n r t' page)) t' → l ≡ leaves (settle (runAll (walkAt byDart N n s t) (atHand c page))) t
+  run-left l e = e ∙ (ap (λ (x : Run). leaves (settle x) t') (h .tells) ∙ settle-same (runAll (walkAt byDart N n s t) (atHand c page)) t' t)

@@ -14,7 +14,7 @@ ghost use Prim.Native.Nat.{ℕ, _≤_, _<_, _%_, _/_};
 ghost use lib.ListN.{length, take};
 ghost use lib.Dec.{eqb};
 ghost use Rattle.rules.specs.Lists.{sum};
-ghost use Rattle.rules.specs.Map.{byRank, Limits};
+ghost use Rattle.rules.specs.Map.{byDart, Limits};
 ghost use Rattle.rules.specs.Stream.{value};
 ghost use Rattle.rules.specs.Reading as reading;
 ghost use Rattle.rules.specs.Reading.{plainAnswer, runAll};
@@ -120,7 +120,7 @@ pub fn refused(number: u32, place: u32) -> Paged
 pub fn spoiled(number: u32, dim: usize, darts: usize, stand: Stand, tables: &mut [u16]) -> Paged
     requires { ⌜ Limits dim darts (now tables) ⌝ }
     ensures { λ r. let t = now (tables .entry) in ⌜ leftBy r (now (tables .exit))
-        ≡ leaves (reading.spoiled number (walkAt byRank dim darts stand t)) t ⌝ }
+        ≡ leaves (reading.spoiled number (walkAt byDart dim darts stand t)) t ⌝ }
 {
     let positions = stand.positions;
     let place = steps_of(positions);
@@ -200,7 +200,7 @@ pub fn finish(
 ) -> Paged
     requires { ⌜ Ends dim darts stand c (now tables) (now page) ⌝ }
     ensures { λ r. let t = now (tables .entry) in ⌜ leftBy r (now (tables .exit))
-        ≡ leaves (reading.finish (walkAt byRank dim darts stand t) (atHand c (now (page .entry)))) t ⌝ }
+        ≡ leaves (reading.finish (walkAt byDart dim darts stand t) (atHand c (now (page .entry)))) t ⌝ }
 {
     let count = stand.count as usize;
     if count != darts {
@@ -260,7 +260,7 @@ pub fn go_on(
 ) -> Fetching
     requires { ⌜ Ready dim darts stand c (now tables) (now page) ⌝ }
     ensures { λ r. let t = now (tables .entry) in ⌜ Fetches r (now (tables .exit))
-        (leaves (reading.settle (runAll (walkAt byRank dim darts stand t) (atHand c (now (page .entry))))) t) ⌝ }
+        (leaves (reading.settle (runAll (walkAt byDart dim darts stand t) (atHand c (now (page .entry))))) t) ⌝ }
 {
     let r = runs::run(tables, dim, darts, stand, c, page);
     let signal = r.signal;

@@ -114,7 +114,8 @@ module _ (m : List ℕ) (root : ℕ) (w : Walk) (names work : List ℕ) (v : Inv
         let z : j - 1 + 0 ≡ j - 1 = omega arith in
         let K : knownIn (w .layout) (w .dim) (w .darts) m work j b (name names b) ≡ leanKnown m w names j b =
         ap (λ (p : ℕ). knownIn (w .layout) (w .dim) (w .darts) m work j p (name names b)) e ∙ known-same j b (turn .next .ranked) below in
-        let D : deducingRank (w .layout) (w .dim) (w .darts) m work j b (name names b) ≡ deducingRank (w .layout) (w .dim) (w .darts) m work j (gone w j) (name names b) =
+        let D : deducingRank (w .layout) (w .dim) (w .darts) m work j b (name names b)
+        ≡ deducingRank (w .layout) (w .dim) (w .darts) m work j (gone w j) (name names b) =
         ap (λ (p : ℕ). deducingRank (w .layout) (w .dim) (w .darts) m work j p (name names b)) e in
         partner-lean m root w names v M A j b turn ∙ rw (K, D, deduce-scan (j - 1) 0 (omega arith), z)
 

@@ -10,7 +10,7 @@ use lib.Seq.{getD-append-add}
 use lib.Dec.{eqb}
 use borrow.Author.Tests.{lt-ltb, le-ltb}
 use Rattle.rules.specs.Lists.{listOf, number}
-use Rattle.rules.specs.Map.{byRank, mark, Valid, Limits}
+use Rattle.rules.specs.Map.{byDart, mark, Valid, Limits}
 use Rattle.rules.specs.Walk.{Walk, Head, head, Partner, partner, Symbol, enough, Written, symbolOf, named, writeSymbol, writeWith, writeAt, writeStep}
 use Rattle.rules.specs.Walk.{prepend, writeOn, write, namesOf}
 use Rattle.rules.specs.Check.{numbering}
@@ -85,36 +85,37 @@ write-more (suc f) m w names = go (λ w' names'. write-more f m w' names') (writ
         (r ++ q, more-more _ names names' r q u p)
 
 -- what the contracts ask makes the map one to walk over
-pub rooted-by : {N n : ℕ} {m : List ℕ} {root : ℕ} {work : List ℕ} → Limits N n m → Valid byRank N n m → NumberedFrom N n m root work → Rooted N n m root
+pub rooted-by : {N n : ℕ} {m : List ℕ} {root : ℕ} {work : List ℕ} → Limits N n m → Valid byDart N n m → NumberedFrom N n m root work → Rooted N n m root
 rooted-by L A Q = record { ranks = L .dims .1; small = L .darts .1; dart = Q .connected .rooted; valid = A }
 
 -- a finished numbering
 module _ {N n : ℕ} {m : List ℕ} {root : ℕ} (P : Rooted N n m root) {work : List ℕ} (Q : NumberedFrom N n m root work) where
   full : List ℕ
-  full = namesOf byRank N n m root
+  full = namesOf byDart N n m root
 
   full-length : length full ≡ n
   unfolding full
-  full-length = names-all byRank N n m root (P .ranks) (P .small) (P .dart) (P .valid) (Q .connected)
+  full-length = names-all byDart N n m root (P .ranks) (P .small) (P .dart) (P .valid) (Q .connected)
 
   numbered-entry : (d : ℕ) → d < n → numberIn n work d ≡ number full d
   unfolding numberIn numbering full
   numbered-entry d h =
-      let l : d < length (listOf n (number (namesOf byRank N n m root)) ++ namesOf byRank N n m root) = simp (length-append, length-listOf) (omega arith) in
-      let l' : d < length (listOf n (number (namesOf byRank N n m root))) = omega (arith, length-listOf n (number (namesOf byRank N n m root))) in
+      let l : d < length (listOf n (number (namesOf byDart N n m root)) ++ namesOf byDart N n m root) = simp (length-append, length-listOf) (omega arith) in
+      let l' : d < length (listOf n (number (namesOf byDart N n m root))) = omega (arith, length-listOf n (number (namesOf byDart N n m root))) in
       rw (lt-ltb d n h, Q .room)
-      (List·getD-append (listOf n (number (namesOf byRank N n m root)) ++ namesOf byRank N n m root) (Q .tail) mark d l
-      ∙ (List·getD-append (listOf n (number (namesOf byRank N n m root))) (namesOf byRank N n m root) mark d l' ∙ getD-listOf n (number (namesOf byRank N n m root)) d mark h))
+      (List·getD-append (listOf n (number (namesOf byDart N n m root)) ++ namesOf byDart N n m root) (Q .tail) mark d l
+      ∙ (List·getD-append (listOf n (number (namesOf byDart N n m root))) (namesOf byDart N n m root) mark d l' ∙ getD-listOf n
+      (number (namesOf byDart N n m root)) d mark h))
 
   dart-entry : (b : ℕ) → b < n → dartIn n work b ≡ name full b
   unfolding numbering full name
   dart-entry b h =
-      let a = listOf n (number (namesOf byRank N n m root)) in
-      let la = length-listOf n (number (namesOf byRank N n m root)) in
-      let l : n + b < length (a ++ namesOf byRank N n m root) =
-      simp (length-append, length-listOf) (omega (arith, names-all byRank N n m root (P .ranks) (P .small) (P .dart) (P .valid) (Q .connected))) in
+      let a = listOf n (number (namesOf byDart N n m root)) in
+      let la = length-listOf n (number (namesOf byDart N n m root)) in
+      let l : n + b < length (a ++ namesOf byDart N n m root) =
+      simp (length-append, length-listOf) (omega (arith, names-all byDart N n m root (P .ranks) (P .small) (P .dart) (P .valid) (Q .connected))) in
       let e : n + b ≡ length a + b = omega arith in
-      rw (Q .room) (List·getD-append (a ++ namesOf byRank N n m root) (Q .tail) mark (n + b) l ∙ rw e (getD-append-add a (namesOf byRank N n m root) b mark))
+      rw (Q .room) (List·getD-append (a ++ namesOf byDart N n m root) (Q .tail) mark (n + b) l ∙ rw e (getD-append-add a (namesOf byDart N n m root) b mark))
 
   front-agrees : (names rest : List ℕ) → full ≡ names ++ rest → Agrees n names work
   unfolding full name numberIn
@@ -134,8 +135,8 @@ module _ {N n : ℕ} {m : List ℕ} {root : ℕ} (P : Rooted N n m root) {work :
       below d h =
           let p : number full d ≡ number names d = ap (λ (x : List ℕ). number x d) e ∙ number-front names rest d h in
           let l : number full d < length full = omega (arith, few, full-length) in
-          let q = name-below byRank N n m root (P .ranks) (P .small) (P .dart) (P .valid) (number full d) l in
-          let r = name-number byRank N n m root (P .ranks) (P .small) (P .dart) (P .valid) d l in
+          let q = name-below byDart N n m root (P .ranks) (P .small) (P .dart) (P .valid) (number full d) l in
+          let r = name-number byDart N n m root (P .ranks) (P .small) (P .dart) (P .valid) d l in
           rw r at q
 
       free : (d : ℕ) → length names ≤ number names d → Dec (d < n) → length names ≤ numberIn n work d

@@ -10,7 +10,7 @@ use lib.Dec.{leb}
 use borrow.Author.Tests.{leb-false}
 use Rattle.rules.specs.declared.WalkNo.{WalkNo}
 use Rattle.rules.specs.declared.Symbol.the-variants.{Index}
-use Rattle.rules.specs.Map.{byRank, link, Valid}
+use Rattle.rules.specs.Map.{byDart, link, Valid}
 use Rattle.rules.specs.Walk.{Walk, Symbol, named}
 use Rattle.rules.specs.Walk.{Walked, prepend, symbolsOf}
 use Rattle.rules.specs.Inner.{Emptied, Lowest}
@@ -32,18 +32,19 @@ index-below-by false false true u e c x q h = let z : _≡_ {A = ℕ} 0 1 = cc i
 index-below-by false false false true e c x q h = let z : _≡_ {A = ℕ} 0 1 = cc in absurd (omega arith)
 index-below-by false false false false e c x q h = let z : e ≡ x .0 = cc in omega (arith, leb-false c e q)
 
-pub index-below : (N n : ℕ) (t work : List ℕ) (c j p : ℕ) (x : WalkNo) → writesIn byRank N n t work c j p ≡ One (Index x) → x .0 < c
+pub index-below : (N n : ℕ) (t work : List ℕ) (c j p : ℕ) (x : WalkNo) → writesIn byDart N n t work c j p ≡ One (Index x) → x .0 < c
 unfolding writesIn
 index-below N n t work c j p x h =
-    index-below-by _ _ _ (leb c (numberIn n work (link byRank N n t j (dartIn n work p)))) (numberIn n work (link byRank N n t j (dartIn n work p))) c x refl h
+    index-below-by _ _ _ (leb c (numberIn n work (link byDart N n t j (dartIn n work p)))) (numberIn n work (link byDart N n t j (dartIn n work p))) c x refl h
 
 -- where a replay stands: along the walk, and the symbols so far and those left are all
 pub record Replaying (N n : ℕ) (m : List ℕ) (root c : ℕ) (ps : List ℕ) (ss : List Symbol) : Type 0 where
   pub walking : Walking N n m root c ps
-  pub left : ss ++ ahead walking .symbols ≡ symbolsOf byRank N n m root
+  pub left : ss ++ ahead walking .symbols ≡ symbolsOf byDart N n m root
 
-stepping-same : {N n : ℕ} {m : List ℕ} {w : Walk} {names : List ℕ} (work : List ℕ) {c : ℕ} (j p : ℕ) → w .layout ≡ byRank → w .dim ≡ N → w .darts ≡ n → c ≡ w .count
-    → Stepping m w names (writesIn (w .layout) (w .dim) (w .darts) m work (w .count) j p) → Stepping m w names (writesIn byRank N n m work c j p)
+stepping-same : {N n : ℕ} {m : List ℕ} {w : Walk} {names : List ℕ} (work : List ℕ) {c : ℕ} (j p : ℕ) → w .layout ≡ byDart → w .dim ≡ N → w .darts ≡ n
+    → c ≡ w .count
+    → Stepping m w names (writesIn (w .layout) (w .dim) (w .darts) m work (w .count) j p) → Stepping m w names (writesIn byDart N n m work c j p)
 stepping-same work j p y d e f x = rw (← y, ← d, ← e, f) x
 
 -- over a finished numbering
@@ -54,7 +55,7 @@ module _ {N n : ℕ} {m : List ℕ} {root : ℕ} (P : Rooted N n m root) {work :
 
   module _ {c : ℕ} {ps : List ℕ} {ss : List Symbol} (R : Replaying N n m root c ps ss) where
     -- the end, where all queues are empty: these are all symbols
-    pub replay-ends : (j : ℕ) → Emptied c ps j → N < j → ss ≡ symbolsOf byRank N n m root
+    pub replay-ends : (j : ℕ) → Emptied c ps j → N < j → ss ≡ symbolsOf byDart N n m root
     replay-ends j E h =
         let q : ahead (R .walking) .symbols ≡ [] = ap (λ (x : Walked). x .symbols) (walking-over P (R .walking) j E h) in
         sym (append-nil ss) ∙ rw q at (R .left)
@@ -69,7 +70,7 @@ module _ {N n : ℕ} {m : List ℕ} {root : ℕ} (P : Rooted N n m root) {work :
           record { position = h .1; count = omega (arith, h .2, P .small); room = hw; dart = o .1; own = omega (arith, o .2) }
 
       -- a step of the rules writes what the numbers tell
-      stepping : Stepping m (R .walking .walk) (R .walking .names) (writesIn byRank N n m work c j (getD ps j 0))
+      stepping : Stepping m (R .walking .walk) (R .walking .names) (writesIn byDart N n m work c j (getD ps j 0))
       stepping =
           let K = kept P (R .walking) in
           let A : Valid (R .walking .walk .layout) (R .walking .walk .dim) (R .walking .walk .darts) m = rw (K .layout, K .dim, K .darts) (P .valid) in
@@ -79,10 +80,10 @@ module _ {N n : ℕ} {m : List ℕ} {root : ℕ} (P : Rooted N n m root) {work :
           (steps-written m root (R .walking .walk) (R .walking .names) work (K .inv) (K .named) A G j (getD ps j 0) h)
 
       -- the turn itself
-      pub replay-goes : let s = writesIn byRank N n m work c j (getD ps j 0) in Replaying N n m root (countAfter s c) (positionsAfter j ps) (ss ++ told s)
+      pub replay-goes : let s = writesIn byDart N n m work c j (getD ps j 0) in Replaying N n m root (countAfter s c) (positionsAfter j ps) (ss ++ told s)
       unfolding prepend
       replay-goes =
-          let s = writesIn byRank N n m work c j (getD ps j 0) in
+          let s = writesIn byDart N n m work c j (getD ps j 0) in
           let y = stepping in
           let O = walking-on P (R .walking) j e (y .step) (countAfter s c) (ap (countAfter s) (R .walking .count) ∙ sym (y .count)) in
           let q : ahead (R .walking) .symbols ≡ told s ++ ahead (O .next) .symbols = ap (λ (x : Walked). x .symbols) (O .first) in

@@ -7,7 +7,7 @@ use mathlib.Core.Bool.{Bool, true, false, _||_}
 use lib.ListN.{length}
 use lib.Dec.{eqb, ltb, leb}
 use Rattle.rules.specs.Lists.{first}
-use Rattle.rules.specs.Map.{Layout, byRank, link, Connected}
+use Rattle.rules.specs.Map.{Layout, byDart, link, Connected}
 use Rattle.rules.specs.Walk as walk
 use Rattle.rules.specs.Check.{numbering}
 use Rattle.rules.specs.Symbols.{toldSymbol}
@@ -67,6 +67,6 @@ pub record AtHead (n : ℕ) (work : List ℕ) (c p : ℕ) : Type 0 where
 
 -- the work room holds the whole numbering of a connected map from a root
 pub record NumberedFrom (N n : ℕ) (t : List ℕ) (root : ℕ) (work : List ℕ) : Type 0 where
-  pub connected : Connected byRank N n t root
+  pub connected : Connected byDart N n t root
   pub tail : List ℕ
-  pub room : work ≡ numbering byRank N n root t ++ tail
+  pub room : work ≡ numbering byDart N n root t ++ tail

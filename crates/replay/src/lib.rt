@@ -7,7 +7,7 @@ ghost use mathlib.Core.Bool.{false};
 ghost use Prim.Native.Nat.{_+_, _-_, _≤_, _<_};
 ghost use lib.ListN.{length, getD};
 ghost use lib.Dec.{ltb};
-ghost use Rattle.rules.specs.Map.{byRank, Limits, Valid};
+ghost use Rattle.rules.specs.Map.{byDart, Limits, Valid};
 ghost use Rattle.walk.specs.Numbers.{numberIn, dartIn, positionsAfter};
 ghost use Rattle.replay.specs.Replays.{knownIn, deducingRank, writesIn, countAfter, replayedIn, AtHead};
 
@@ -33,9 +33,9 @@ pub fn known(
     d: Dart,
     position: u16,
 ) -> bool
-    requires { ⌜ Limits dim darts (now tables) × Valid byRank dim darts (now tables) × (j ≤ dim)
+    requires { ⌜ Limits dim darts (now tables) × Valid byDart dim darts (now tables) × (j ≤ dim)
         × (darts ≤ length (now work)) × (d .0 < darts) ⌝ }
-    ensures { λ r. ⌜ r ≡ knownIn byRank dim darts (now (tables .entry)) (now (work .entry)) j position (d .0) ⌝ }
+    ensures { λ r. ⌜ r ≡ knownIn byDart dim darts (now (tables .entry)) (now (work .entry)) j position (d .0) ⌝ }
 {
     if walk::number_of(work, darts, d).0 < position {
         return true;
@@ -53,11 +53,11 @@ pub fn deduced(
     d: Dart,
     position: u16,
 ) -> bool
-    requires { ⌜ Limits dim darts (now tables) × Valid byRank dim darts (now tables) × (j ≤ dim)
+    requires { ⌜ Limits dim darts (now tables) × Valid byDart dim darts (now tables) × (j ≤ dim)
         × (darts ≤ length (now work)) × (d .0 < darts)
-        × (knownIn byRank dim darts (now tables) (now work) j position (d .0) ≡ false) ⌝ }
-    ensures { λ r. let rank = deducingRank byRank dim darts (now (tables .entry)) (now (work .entry)) j position (d .0) in
-        ⌜ r ≡ ltb rank (j - 1) ⌝ }
+        × (knownIn byDart dim darts (now tables) (now work) j position (d .0) ≡ false) ⌝ }
+    ensures { λ r. let rank = deducingRank byDart dim darts (now (tables .entry)) (now (work .entry)) j position (d .0)
+        in ⌜ r ≡ ltb rank (j - 1) ⌝ }
 {
     let mut i = 0;
     while i + 1 < j {
@@ -84,10 +84,10 @@ pub fn writes(
     j: usize,
     position: u16,
 ) -> Yield
-    requires { ⌜ Limits dim darts (now tables) × Valid byRank dim darts (now tables) × (j ≤ dim)
+    requires { ⌜ Limits dim darts (now tables) × Valid byDart dim darts (now tables) × (j ≤ dim)
         × (darts + position < length (now work)) × (dartIn darts (now work) position < darts)
         × (position ≤ numberIn darts (now work) (dartIn darts (now work) position)) ⌝ }
-    ensures { λ r. ⌜ r ≡ writesIn byRank dim darts (now (tables .entry)) (now (work .entry)) count j position ⌝ }
+    ensures { λ r. ⌜ r ≡ writesIn byDart dim darts (now (tables .entry)) (now (work .entry)) count j position ⌝ }
 {
     let d = walk::dart_of(work, darts, WalkNo(position));
     let x = walk::partner_of(tables, dim, darts, j, d);
@@ -133,10 +133,10 @@ pub fn step(
     j: usize,
     count: u16,
 ) -> Replayed
-    requires { ⌜ Limits dim darts (now tables) × Valid byRank dim darts (now tables) × (j ≤ dim)
+    requires { ⌜ Limits dim darts (now tables) × Valid byDart dim darts (now tables) × (j ≤ dim)
         × (length (now positions) ≡ 7) × AtHead darts (now work) count (getD (now positions) j 0) ⌝ }
     ensures { λ r. let p = getD (now (positions .entry)) j 0 in
-        ⌜ (r ≡ replayedIn byRank dim darts (now (tables .entry)) (now (work .entry)) count j p)
+        ⌜ (r ≡ replayedIn byDart dim darts (now (tables .entry)) (now (work .entry)) count j p)
         × (now (positions .exit) ≡ positionsAfter j (now (positions .entry))) ⌝ }
 {
     let position = positions[j];

@@ -13,7 +13,7 @@ use borrow.Author.Tests.{eqb-true, eq-eqb, ne-eqb, lt-ltb, le-ltb}
 use Rattle.rules.specs.declared.CheckAnswer.{CheckAnswer}
 use Rattle.rules.specs.declared.ReportAnswer.{ReportAnswer}
 use Rattle.rules.specs.Lists.{first}
-use Rattle.rules.specs.Map.{byRank, mark, blank, allRanks, reaches, Valid, Limits}
+use Rattle.rules.specs.Map.{byDart, mark, blank, allRanks, reaches, Valid, Limits}
 use Rattle.rules.specs.Check.{Verdict, refuseIf, unreached, verdict, workAfter, checkAnswerOf, checkAnswer, checkWork}
 use Rattle.rules.specs.Report.{cellCounts, freePairs, orientable, reportAnswerOf, reportAnswer, reportWorkAfter, reportWork}
 use Rattle.rules.proofs.Lists.{not-both, first-passes, first-before, getD-any, first-same}
@@ -28,19 +28,19 @@ use Rattle.flood.proofs.Floods.{linked-reached}
 use Rattle.report.specs.Spans.{Spanned, AllMarked}
 
 -- a refusal that the check would give too
-refused-as : (N n : ℕ) (t w w' : List ℕ) (nr p : ℕ) → (record { number = nr; place = p } ≡ checkAnswer byRank N n 0 t w) × (w' ≡ checkWork byRank N n 0 t w)
-    → nr ≢ 0 → (refusalOf nr p ≡ reportAnswer byRank N n t w) × (w' ≡ reportWork byRank N n t w)
+refused-as : (N n : ℕ) (t w w' : List ℕ) (nr p : ℕ) → (record { number = nr; place = p } ≡ checkAnswer byDart N n 0 t w) × (w' ≡ checkWork byDart N n 0 t w)
+    → nr ≢ 0 → (refusalOf nr p ≡ reportAnswer byDart N n t w) × (w' ≡ reportWork byDart N n t w)
 unfolding checkAnswer checkAnswerOf checkWork workAfter reportAnswer reportAnswerOf reportWork reportWorkAfter refusalOf
-refused-as N n t w w' nr p (e, f) h = rw f (go (verdict byRank N n 0 t (length w)) e)
+refused-as N n t w w' nr p (e, f) h = rw f (go (verdict byDart N n 0 t (length w)) e)
   where
     go : (v : Verdict) → record { number = nr; place = p } ≡ checkAnswerOf v
-        → (refusalOf nr p ≡ reportAnswerOf byRank N n t v) × (workAfter byRank N n 0 t w v ≡ reportWorkAfter n w v)
+        → (refusalOf nr p ≡ reportAnswerOf byDart N n t v) × (workAfter byDart N n 0 t w v ≡ reportWorkAfter n w v)
     go Verdict.fine e = absurd (h (ap (λ (x : CheckAnswer). x .number) e))
     go (Verdict.refused nr' p') e = (rw (ap (λ (x : CheckAnswer). x .number) e, ap (λ (x : CheckAnswer). x .place) e), refl)
 
 -- the parts of a counted answer, and the work room blanked after them
-pub counted-parts : (N n : ℕ) (t counts : List ℕ) (free : ℕ) (o : Bool) → counts ≡ cellCounts byRank N n t → free ≡ freePairs byRank N n t
-    → o ≡ orientable byRank N n t → record { number = 0; place = 0; cells = counts; free = free; orientable = o } ≡ countedOf N n t
+pub counted-parts : (N n : ℕ) (t counts : List ℕ) (free : ℕ) (o : Bool) → counts ≡ cellCounts byDart N n t → free ≡ freePairs byDart N n t
+    → o ≡ orientable byDart N n t → record { number = 0; place = 0; cells = counts; free = free; orientable = o } ≡ countedOf N n t
 unfolding countedOf
 counted-parts N n t counts free o ec ef eo = rw (ec, ef, eo)
 
@@ -53,12 +53,12 @@ pub record Tabled (N n : ℕ) (t w : List ℕ) : Type 0 where
   pub limits : Limits N n t
   pub room : 2 * n ≤ length w
   pub some : 0 < n
-  pub valid : Valid byRank N n t
-  pub left : verdict byRank N n 0 t (length w) ≡ numbered-verdict N n 0 t
+  pub valid : Valid byDart N n t
+  pub left : verdict byDart N n 0 t (length w) ≡ numbered-verdict N n 0 t
 
 -- what the code did, step by step: k is what it found of the sizes, a of the tables
 module _ (N n : ℕ) (t w : List ℕ) {k : ℕ} (ek : k ≡ misfitOf N n 0 (length t) (length w)) where
-  pub report-sizes : {r : ReportAnswer} → r ≡ refusalOf k 0 → k ≢ 0 → (r ≡ reportAnswer byRank N n t w) × (w ≡ reportWork byRank N n t w)
+  pub report-sizes : {r : ReportAnswer} → r ≡ refusalOf k 0 → k ≢ 0 → (r ≡ reportAnswer byDart N n t w) × (w ≡ reportWork byDart N n t w)
   report-sizes e h = rw e (refused-as N n t w w k 0 (check-sizes N n 0 t w k ek h) h)
 
   module _ (z : k ≡ 0) where
@@ -66,7 +66,8 @@ module _ (N n : ℕ) (t w : List ℕ) {k : ℕ} (ek : k ≡ misfitOf N n 0 (leng
     report-limits = check-limits N n 0 t w k ek z .0
 
     module _ {a : CheckAnswer} (ea : a ≡ misbuiltOf N n t) where
-      pub report-tables : {r : ReportAnswer} → r ≡ refusalOf (a .number) (a .place) → a .number ≢ 0 → (r ≡ reportAnswer byRank N n t w) × (w ≡ reportWork byRank N n t w)
+      pub report-tables : {r : ReportAnswer} → r ≡ refusalOf (a .number) (a .place) → a .number ≢ 0
+          → (r ≡ reportAnswer byDart N n t w) × (w ≡ reportWork byDart N n t w)
       report-tables e h = rw e (refused-as N n t w w (a .number) (a .place) (check-tables N n 0 t w k ek z a ea h) h)
 
       pub report-tabled : a .number ≡ 0 → Tabled N n t w
@@ -111,46 +112,48 @@ module _ {N n tail top : ℕ} {t w u : List ℕ} (T : Tabled N n t w) (S : Spann
       go (no l) = omega arith
       go (yes l) = absurd (full-marked Q h least l (sym (in-room least l) ∙ eqb-true (getD u least mark) mark (first-passes (numberless u) n l)))
 
-  found : least ≡ first (unreached byRank N n t 0) n
+  found : least ≡ first (unreached byDart N n t 0) n
   unfolding unreached
-  found = first-same (numberless u) (unreached byRank N n t 0) n (λ i l. rw (in-room i l) (each i l))
+  found = first-same (numberless u) (unreached byDart N n t 0) n (λ i l. rw (in-room i l) (each i l))
     where
-      C : Closed byRank N n t
+      C : Closed byDart N n t
       C = valid-closed (T .valid)
 
-      alike : (i : ℕ) → i < n → Dec (getD u i 0 ≡ mark) → (b : Bool) → reaches byRank allRanks N n t 0 i ≡ b → eqb (getD u i 0) mark ≡ unreached byRank N n t 0 i
+      alike : (i : ℕ) → i < n → Dec (getD u i 0 ≡ mark) → (b : Bool) → reaches byDart allRanks N n t 0 i ≡ b
+          → eqb (getD u i 0) mark ≡ unreached byDart N n t 0 i
       alike i l (yes e) false q = rw (q, eq-eqb (getD u i 0) mark e)
-      alike i l (yes e) true q = absurd (S .reached i (reaches-reached byRank allRanks N n t C 0 i (T .some) l q) e)
-      alike i l (no m) b q = rw (reached-reaches byRank allRanks N n t C 0 i (T .some) (linked-reached (S .linked i l m)), ne-eqb (getD u i 0) mark m)
+      alike i l (yes e) true q = absurd (S .reached i (reaches-reached byDart allRanks N n t C 0 i (T .some) l q) e)
+      alike i l (no m) b q = rw (reached-reaches byDart allRanks N n t C 0 i (T .some) (linked-reached (S .linked i l m)), ne-eqb (getD u i 0) mark m)
 
-      each : (i : ℕ) → i < n → eqb (getD u i 0) mark ≡ unreached byRank N n t 0 i
-      each i l = alike i l (ℕ-discrete (getD u i 0) mark) (reaches byRank allRanks N n t 0 i) refl
+      each : (i : ℕ) → i < n → eqb (getD u i 0) mark ≡ unreached byDart N n t 0 i
+      each i l = alike i l (ℕ-discrete (getD u i 0) mark) (reaches byDart allRanks N n t 0 i) refl
 
   -- u' is the work room at the end
   module _ {u' : List ℕ} (eu : u' ≡ blank (2 * n) u) (past : drop (2 * n) u ≡ drop (2 * n) w) where
-    pub report-unreached : {r : ReportAnswer} {d : ℕ} → r ≡ refusalOf 9 d → d ≡ least → tail < n → (r ≡ reportAnswer byRank N n t w) × (u' ≡ reportWork byRank N n t w)
+    pub report-unreached : {r : ReportAnswer} {d : ℕ} → r ≡ refusalOf 9 d → d ≡ least → tail < n
+        → (r ≡ reportAnswer byDart N n t w) × (u' ≡ reportWork byDart N n t w)
     unfolding refuseIf reportAnswer reportAnswerOf reportWork reportWorkAfter refusalOf
     report-unreached e ed h =
-        let v : verdict byRank N n 0 t (length w) ≡ Verdict.refused 9 least = T .left ∙ rw (← found, lt-ltb least n (least-below h)) in
+        let v : verdict byDart N n 0 t (length w) ≡ Verdict.refused 9 least = T .left ∙ rw (← found, lt-ltb least n (least-below h)) in
         rw v ((e ∙ ap (refusalOf 9) ed, blank-over (2 * n) w u u' eu past))
 
-    pub report-counted : {r : ReportAnswer} → r ≡ countedOf N n t → n ≤ tail → (r ≡ reportAnswer byRank N n t w) × (u' ≡ reportWork byRank N n t w)
+    pub report-counted : {r : ReportAnswer} → r ≡ countedOf N n t → n ≤ tail → (r ≡ reportAnswer byDart N n t w) × (u' ≡ reportWork byDart N n t w)
     unfolding refuseIf reportAnswer reportAnswerOf reportWork reportWorkAfter countedOf
     report-counted e h =
-        let v : verdict byRank N n 0 t (length w) ≡ Verdict.fine = T .left ∙ rw (← found, le-ltb least n (least-past h)) in
+        let v : verdict byDart N n 0 t (length w) ≡ Verdict.fine = T .left ∙ rw (← found, le-ltb least n (least-past h)) in
         rw v ((e, blank-over (2 * n) w u u' eu past))
 
 -- a report with number 0 is of a map that passes every test
-pub reported : (N n : ℕ) (t w : List ℕ) (a : ReportAnswer) → a ≡ reportAnswer byRank N n t w → a .number ≡ 0 → Passes byRank N n 0 t (length w)
+pub reported : (N n : ℕ) (t w : List ℕ) (a : ReportAnswer) → a ≡ reportAnswer byDart N n t w → a .number ≡ 0 → Passes byDart N n 0 t (length w)
 unfolding reportAnswer reportAnswerOf
-reported N n t w a ea h = go (verdict byRank N n 0 t (length w)) refl (sym (ap (λ (x : ReportAnswer). x .number) ea) ∙ h)
+reported N n t w a ea h = go (verdict byDart N n 0 t (length w)) refl (sym (ap (λ (x : ReportAnswer). x .number) ea) ∙ h)
   where
-    go : (v : Verdict) → verdict byRank N n 0 t (length w) ≡ v → reportAnswerOf byRank N n t v .number ≡ 0 → Passes byRank N n 0 t (length w)
-    go Verdict.fine e z = fine-passes byRank N n 0 t (length w) e
-    go (Verdict.refused nr p) e z = absurd (refused-some byRank N n 0 t (length w) nr p e z)
+    go : (v : Verdict) → verdict byDart N n 0 t (length w) ≡ v → reportAnswerOf byDart N n t v .number ≡ 0 → Passes byDart N n 0 t (length w)
+    go Verdict.fine e z = fine-passes byDart N n 0 t (length w) e
+    go (Verdict.refused nr p) e z = absurd (refused-some byDart N n 0 t (length w) nr p e z)
 
 -- the report takes root 0, which is a dart wherever n is within the limits: it never gives 5
-rootless-case : {N n room nr p : ℕ} {t : List ℕ} → Case byRank N n 0 t room nr p → nr ≡ 5 → n ≤ 0
+rootless-case : {N n room nr p : ℕ} {t : List ℕ} → Case byDart N n 0 t room nr p → nr ≡ 5 → n ≤ 0
 rootless-case (Case.dims h) e = absurd (omega arith)
 rootless-case (Case.darts h) e = absurd (omega arith)
 rootless-case (Case.tables h) e = absurd (omega arith)
@@ -161,12 +164,12 @@ rootless-case (Case.inverse i d F) e = absurd (omega arith)
 rootless-case (Case.manifold k d F) e = absurd (omega arith)
 rootless-case (Case.unreachable d L) e = absurd (omega arith)
 
-pub report-rooted : (N n : ℕ) (t w : List ℕ) → reportAnswer byRank N n t w .number ≢ 5
+pub report-rooted : (N n : ℕ) (t w : List ℕ) → reportAnswer byDart N n t w .number ≢ 5
 unfolding reportAnswer reportAnswerOf
-report-rooted N n t w = go (verdict byRank N n 0 t (length w)) refl
+report-rooted N n t w = go (verdict byDart N n 0 t (length w)) refl
   where
-    go : (v : Verdict) → verdict byRank N n 0 t (length w) ≡ v → reportAnswerOf byRank N n t v .number ≢ 5
+    go : (v : Verdict) → verdict byDart N n 0 t (length w) ≡ v → reportAnswerOf byDart N n t v .number ≢ 5
     go Verdict.fine e z = absurd (omega arith)
     go (Verdict.refused nr p) e z =
-        let (c, none) = refused-case byRank N n 0 t (length w) nr p e in
+        let (c, none) = refused-case byDart N n 0 t (length w) nr p e in
         none 2 0 (omega arith) (Case.darts (λ h. omega (arith, rootless-case c z, h .0)))

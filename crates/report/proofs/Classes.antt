@@ -10,7 +10,7 @@ use lib.ListN.{getD}
 use lib.Dec.{eqb}
 use borrow.Author.Tests.{eqb-true, eqb-false, eq-eqb, ne-eqb, not-true}
 use Rattle.rules.specs.Lists.{someBelow, countBelow}
-use Rattle.rules.specs.Map.{byRank, size, place, link, allRanks, Valid, Limits}
+use Rattle.rules.specs.Map.{byDart, size, place, link, allRanks, Valid, Limits}
 use Rattle.rules.specs.Report.{freePairs, orientable}
 use Rattle.rules.proofs.Lists.{and-left, and-right, not-both, some-below, below-some}
 use Rattle.rules.proofs.Places.{nth-rank, nth-dart, nth-below, rank-nth, dart-nth}
@@ -50,11 +50,11 @@ other-one (suc zero) (suc (suc b)) h k e = absurd (omega arith)
 other-one (suc (suc a)) b h k e = absurd (omega arith)
 
 -- the test of the code, x being the entry that it read
-module _ (N n : ℕ) (t w : List ℕ) (i d x : ℕ) (L : Limits N n t) (hi : i ≤ N) (hd : d < n) (e : x ≡ getD t (place byRank N n i d) 0) where
-  entry-link-at : x ≡ link byRank N n t i d
+module _ (N n : ℕ) (t w : List ℕ) (i d x : ℕ) (L : Limits N n t) (hi : i ≤ N) (hd : d < n) (e : x ≡ getD t (place byDart N n i d) 0) where
+  entry-link-at : x ≡ link byDart N n t i d
   entry-link-at = e ∙ entry-link N n t i d L hi hd
 
-  pub entry-below : Valid byRank N n t → x < n
+  pub entry-below : Valid byDart N n t → x < n
   entry-below v = rw entry-link-at (v .inside i d hi hd)
 
   abbrev ranked : ℕ → Bool
@@ -71,7 +71,7 @@ module _ (N n : ℕ) (t w : List ℕ) (i d x : ℕ) (L : Limits N n t) (hi : i �
   alike-no c h = count-no ranked d c (alike-test ∙ ne-eqb (getD w d 0) (getD w x 0) h)
 
 -- any classes that do agree with the numbers of links from a dart of class 0
-linked-class : {keep : ℕ → Bool} {N n : ℕ} {t : List ℕ} {s d m : ℕ} (v : Valid byRank N n t) (O : Orientable byRank N n t) → s < n
+linked-class : {keep : ℕ → Bool} {N n : ℕ} {t : List ℕ} {s d m : ℕ} (v : Valid byDart N n t) (O : Orientable byDart N n t) → s < n
     → Linked keep N n t s 0 d m → O .class d ≡ turn m (O .class s)
 unfolding turn
 linked-class v O h Linked.here = refl
@@ -80,7 +80,7 @@ linked-class {s = s} v O h (Linked.onward {e} {m} i hi k ne r) =
     O .other i e hi below ne ∙ (ap not (linked-class v O h r) ∙ sym (turn-next m (O .class s) (linked-two (omega arith) r)))
 
 -- every dart has a class
-module _ {N n top : ℕ} {t w : List ℕ} (v : Valid byRank N n t) (h1 : 1 ≤ n) (S : Spanned N n t top w) (all : AllMarked n w) where
+module _ {N n top : ℕ} {t w : List ℕ} (v : Valid byDart N n t) (h1 : 1 ≤ n) (S : Spanned N n t top w) (all : AllMarked n w) where
   linked-all : (d : ℕ) → d < n → Linked allRanks N n t 0 0 d (getD w d 0)
   linked-all d h = S .linked d h (all d h)
 
@@ -91,7 +91,7 @@ module _ {N n top : ℕ} {t w : List ℕ} (v : Valid byRank N n t) (h1 : 1 ≤ n
   -- a link that stays in place stays within a class
   free-alike : (k : ℕ) → isFree N n t k ≡ true → alike N n t w k ≡ true
   unfolding alike isFree
-  free-alike k e = rw (eqb-true (link byRank N n t (k / n) (k % n)) (k % n) e) (eq-eqb (getD w (k % n) 0) (getD w (k % n) 0) refl)
+  free-alike k e = rw (eqb-true (link byDart N n t (k / n) (k % n)) (k % n) e) (eq-eqb (getD w (k % n) 0) (getD w (k % n) 0) refl)
 
   -- no link joins two darts of one class: links within one stay in place
   alike-free : someBelow (size N n) joins ≡ false → (k : ℕ) → k < size N n → alike N n t w k ≡ true → isFree N n t k ≡ true
@@ -103,13 +103,13 @@ module _ {N n top : ℕ} {t w : List ℕ} (v : Valid byRank N n t) (h1 : 1 ≤ n
       go false e = absurd (not-both (someBelow (size N n) joins) (below-some (size N n) joins k h (rw (a, e))) q)
 
   -- and the classes do
-  apart-orientable : someBelow (size N n) joins ≡ false → Orientable byRank N n t
+  apart-orientable : someBelow (size N n) joins ≡ false → Orientable byDart N n t
   unfolding alike isFree
   apart-orientable q = record { class = λ d. eqb (getD w d 0) 1; other = other }
     where
-      other : (i d : ℕ) → i ≤ N → d < n → link byRank N n t i d ≢ d → eqb (getD w (link byRank N n t i d) 0) 1 ≡ not (eqb (getD w d 0) 1)
+      other : (i d : ℕ) → i ≤ N → d < n → link byDart N n t i d ≢ d → eqb (getD w (link byDart N n t i d) 0) 1 ≡ not (eqb (getD w d 0) 1)
       other i d hi hd ne =
-          let x = link byRank N n t i d in
+          let x = link byDart N n t i d in
           let a = alike-free q (i * n + d) (nth-below N n i d hi hd) in
           let b : eqb (getD w d 0) (getD w x 0) ≡ true → eqb x d ≡ true = rw (rank-nth n i d hd, dart-nth n i d hd) at a in
           let two = linked-two (omega arith) (linked-all d hd) in
@@ -117,26 +117,26 @@ module _ {N n top : ℕ} {t w : List ℕ} (v : Valid byRank N n t) (h1 : 1 ≤ n
           other-one (getD w d 0) (getD w x 0) two too (λ z. ne (eqb-true x d (b (eq-eqb (getD w d 0) (getD w x 0) z))))
 
   -- a link joins two darts of one class: no classes do
-  alike-refutes : someBelow (size N n) joins ≡ true → Orientable byRank N n t → ⊥
+  alike-refutes : someBelow (size N n) joins ≡ true → Orientable byDart N n t → ⊥
   unfolding joins alike isFree
   alike-refutes q O = let (k, h, e) = some-below (size N n) joins q in same k h e
     where
-      joined : (i d : ℕ) → i ≤ N → d < n → getD w d 0 ≡ getD w (link byRank N n t i d) 0 → link byRank N n t i d ≢ d → ⊥
+      joined : (i d : ℕ) → i ≤ N → d < n → getD w d 0 ≡ getD w (link byDart N n t i d) 0 → link byDart N n t i d ≢ d → ⊥
       joined i d hi hd e ne =
           let a = linked-class v O (omega arith) (linked-all d hd) in
-          let b = linked-class v O (omega arith) (linked-all (link byRank N n t i d) (v .inside i d hi hd)) in
+          let b = linked-class v O (omega arith) (linked-all (link byDart N n t i d) (v .inside i d hi hd)) in
           not-own (O .class d) (a ∙ (ap (λ (x : ℕ). turn x (O .class 0)) e ∙ (sym b ∙ O .other i d hi hd ne)))
 
       same : (k : ℕ) → k < size N n → joins k ≡ true → ⊥
       same k h e =
-          let x = link byRank N n t (k / n) (k % n) in
+          let x = link byDart N n t (k / n) (k % n) in
           let a = and-left (eqb (getD w (k % n) 0) (getD w x 0)) (not (eqb x (k % n))) e in
           let b = and-right (eqb (getD w (k % n) 0) (getD w x 0)) (not (eqb x (k % n))) e in
           joined (k / n) (k % n) (nth-rank N n k h1 h) (nth-dart n k h1) (eqb-true (getD w (k % n) 0) (getD w x 0) a)
           (eqb-false x (k % n) (not-true (eqb x (k % n)) b))
 
   -- as many links stay within a class as pairs are free: the map is orientable
-  pub classes-tell : (a f : ℕ) → a ≡ countBelow (size N n) (alike N n t w) → f ≡ freePairs byRank N n t → eqb a f ≡ orientable byRank N n t
+  pub classes-tell : (a f : ℕ) → a ≡ countBelow (size N n) (alike N n t w) → f ≡ freePairs byDart N n t → eqb a f ≡ orientable byDart N n t
   unfolding freePairs isFree joins
   classes-tell a f ea ef = go (someBelow (size N n) joins) refl
     where
@@ -147,10 +147,10 @@ module _ {N n top : ℕ} {t w : List ℕ} (v : Valid byRank N n t) (h1 : 1 ≤ n
       no-more : someBelow (size N n) joins ≡ false → a ≤ f
       no-more e = rw (ea, ef) (omega (arith, count-wider (size N n) (alike N n t w) (isFree N n t) (alike-free e)))
 
-      never : someBelow (size N n) joins ≡ true → (b : Bool) → orientable byRank N n t ≡ b → false ≡ b
+      never : someBelow (size N n) joins ≡ true → (b : Bool) → orientable byDart N n t ≡ b → false ≡ b
       never h false q = refl
       never h true q = absurd (alike-refutes h (orientable-sound (valid-closed v) h1 q))
 
-      go : (b : Bool) → someBelow (size N n) joins ≡ b → eqb a f ≡ orientable byRank N n t
+      go : (b : Bool) → someBelow (size N n) joins ≡ b → eqb a f ≡ orientable byDart N n t
       go false e = eq-eqb a f (omega (arith, more false e, no-more e)) ∙ sym (orientable-complete (valid-closed v) h1 (apart-orientable e))
-      go true e = ne-eqb a f (λ z. omega (arith, more true e)) ∙ never e (orientable byRank N n t) refl
+      go true e = ne-eqb a f (λ z. omega (arith, more true e)) ∙ never e (orientable byDart N n t) refl

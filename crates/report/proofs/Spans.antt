@@ -8,7 +8,7 @@ use mathlib.Core.List.{List, [], _∷_}
 use native.Mathlib.Omega.{arith}
 use native.Mathlib.Decide.{ℕ-discrete}
 use lib.ListN.{length, getD}
-use Rattle.rules.specs.Map.{byRank, mark, link, allRanks, allBut, blank, Valid}
+use Rattle.rules.specs.Map.{byDart, mark, link, allRanks, allBut, blank, Valid}
 use Rattle.rules.specs.Report.{Cell}
 use Rattle.rules.proofs.Orbits.{valid-closed, reached-sym}
 use Rattle.rules.specs.Inner.{Picks}
@@ -25,11 +25,11 @@ unfolding allRanks
 ranked i = refl
 
 -- a flood by all ranks but N from a dart that has no mark
-module _ {N n : ℕ} {t : List ℕ} (v : Valid byRank N n t) {start class tail tail' : ℕ} {w w' : List ℕ} (Q : Queue n tail w) (hs : start < n) (hc : class < 2)
+module _ {N n : ℕ} {t : List ℕ} (v : Valid byDart N n t) {start class tail tail' : ℕ} {w w' : List ℕ} (Q : Queue n tail w) (hs : start < n) (hc : class < 2)
     (u : getD w start 0 ≡ mark) (F : Flooded (allBut N) N n t start class tail tail' w w') where
   -- marks one N-cell more
-  begun-more : {l : List ℕ} → Explored (allBut N) N n t 0 tail w → Picks (λ d. (d < n) × Marked w d) (Cell byRank N n t N) l
-      → Picks (λ d. (d < n) × Marked w' d) (Cell byRank N n t N) (start ∷ l)
+  begun-more : {l : List ℕ} → Explored (allBut N) N n t 0 tail w → Picks (λ d. (d < n) × Marked w d) (Cell byDart N n t N) l
+      → Picks (λ d. (d < n) × Marked w' d) (Cell byDart N n t N) (start ∷ l)
   begun-more {l} S P = record { member = member; all = λ d m. all d (m .0) (flooded-cases Q hs hc F d (m .0) (m .1)); once = once }
     where
       member : (p : ℕ) → p < suc (length l) → (getD (start ∷ l) p 0 < n) × Marked w' (getD (start ∷ l) p 0)
@@ -37,15 +37,15 @@ module _ {N n : ℕ} {t : List ℕ} (v : Valid byRank N n t) {start class tail t
       member (suc p) h = let (a, m) = P .member p (omega arith) in (a, extended-marked (flooded-on Q hs hc F) a m)
 
       all : (d : ℕ) → d < n → Marked w d ⊎ Linked (allBut N) N n t start class d (getD w' d 0)
-          → (p : ℕ) × (p < suc (length l)) × Cell byRank N n t N (getD (start ∷ l) p 0) d
+          → (p : ℕ) × (p < suc (length l)) × Cell byDart N n t N (getD (start ∷ l) p 0) d
       all d h (inl m) = let (p, k, r) = P .all d ((h, m)) in (suc p, omega arith, r)
       all d h (inr r) = (0, omega arith, linked-reached r)
 
       -- no dart marked before is of the new cell
-      apart : (p : ℕ) → p < length l → Cell byRank N n t N (getD l p 0) start → ⊥
+      apart : (p : ℕ) → p < length l → Cell byDart N n t N (getD l p 0) start → ⊥
       apart p h r = let (a, m) = P .member p h in reached-marked Q S a m r .1 u
 
-      once : (p q : ℕ) → p < suc (length l) → q < suc (length l) → Cell byRank N n t N (getD (start ∷ l) p 0) (getD (start ∷ l) q 0) → p ≡ q
+      once : (p q : ℕ) → p < suc (length l) → q < suc (length l) → Cell byDart N n t N (getD (start ∷ l) p 0) (getD (start ∷ l) q 0) → p ≡ q
       once zero zero h k r = refl
       once zero (suc q) h k r = absurd (apart q (omega arith) (reached-sym (valid-closed v) hs r))
       once (suc p) zero h k r = absurd (apart p (omega arith) r)
@@ -61,7 +61,7 @@ module _ {N n : ℕ} {t : List ℕ} (v : Valid byRank N n t) {start class tail t
       go (inr r) = linked-trans s (linked-wider (λ i hi k. ranked i) r)
 
 -- the N-cell of dart 0
-pub spun-start : (w₀ : List ℕ) {N n tail : ℕ} {t w w' : List ℕ} → Valid byRank N n t → 0 < n → 2 * n ≤ length w₀ → w ≡ blank n w₀
+pub spun-start : (w₀ : List ℕ) {N n tail : ℕ} {t w w' : List ℕ} → Valid byDart N n t → 0 < n → 2 * n ≤ length w₀ → w ≡ blank n w₀
     → Flooded (allBut N) N n t 0 0 0 tail w w' → Spun N n t 0 tail 1 w'
 spun-start w₀ {N} {n} {tail} {t} {w} {w'} v h hw e F = record {
   queue = F .on .queue;
@@ -82,7 +82,7 @@ spun-start w₀ {N} {n} {tail} {t} {w} {w'} v h hw e F = record {
     none : (d : ℕ) → d < n → Marked w d → ⊥
     none = none-blanked n w₀ w hw e
 
-    nothing : Picks (λ d. (d < n) × Marked w d) (Cell byRank N n t N) []
+    nothing : Picks (λ d. (d < n) × Marked w d) (Cell byDart N n t N) []
     nothing = record {
       member = λ p l. absurd (omega arith);
       all = λ d m. absurd (none d (m .0) (m .1));
@@ -90,11 +90,11 @@ spun-start w₀ {N} {n} {tail} {t} {w} {w'} v h hw e F = record {
     }
 
 -- a link leads to a dart
-pub link-below : {N n i d x : ℕ} {t : List ℕ} → Valid byRank N n t → x ≡ link byRank N n t i d → i ≤ N → d < n → x < n
+pub link-below : {N n i d x : ℕ} {t : List ℕ} → Valid byDart N n t → x ≡ link byDart N n t i d → i ≤ N → d < n → x < n
 link-below {i = i} {d = d} v e hi hd = rw e (v .inside i d hi hd)
 
 -- d is the dart at the head of the queue
-module _ {N n head tail count : ℕ} {t w : List ℕ} (v : Valid byRank N n t) (h : head < tail) (R : Spun N n t head tail count w)
+module _ {N n head tail count : ℕ} {t w : List ℕ} (v : Valid byDart N n t) (h : head < tail) (R : Spun N n t head tail count w)
     (d : ℕ) (ed : d ≡ queued n w head) where
   pub head-below : d < n
   head-below = rw ed (R .queue .darts head h)
@@ -102,18 +102,18 @@ module _ {N n head tail count : ℕ} {t w : List ℕ} (v : Valid byRank N n t) (
   pub head-class : getD w d 0 < 2
   head-class = rw ed (R .queue .classes head h)
 
-  crossed-next : {tail' : ℕ} {w' : List ℕ} → Extended n tail tail' w w' → Marked w' (link byRank N n t N d)
-      → (p : ℕ) → p < head + 1 → Marked w' (link byRank N n t N (queued n w' p))
+  crossed-next : {tail' : ℕ} {w' : List ℕ} → Extended n tail tail' w w' → Marked w' (link byDart N n t N d)
+      → (p : ℕ) → p < head + 1 → Marked w' (link byDart N n t N (queued n w' p))
   crossed-next {w' = w'} E m p l = go (ℕ-discrete p head)
     where
-      go : Dec (p ≡ head) → Marked w' (link byRank N n t N (queued n w' p))
+      go : Dec (p ≡ head) → Marked w' (link byDart N n t N (queued n w' p))
       go (yes e) = rw (e, E .places head h, ← ed) m
       go (no e) =
           let inside = v .inside N (queued n w p) (omega arith) (R .queue .darts p (omega arith)) in
           rw (E .places p (omega arith)) (extended-marked E inside (R .crossed p (omega arith)))
 
   -- x is where its aN leads
-  module _ (x : ℕ) (ex : x ≡ link byRank N n t N d) where
+  module _ (x : ℕ) (ex : x ≡ link byDart N n t N d) where
     across-below : x < n
     across-below = link-below v ex (omega arith) head-below
 
@@ -149,23 +149,23 @@ module _ {N n head tail count : ℕ} {t w : List ℕ} (v : Valid byRank N n t) (
         E = flooded-on (R .queue) across-below hc F
 
         -- d has a class and x has none
-        joins : link byRank N n t N d ≢ d
+        joins : link byDart N n t N d ≢ d
         joins z = let q : getD w d 0 ≡ mark = rw (ex, z) at u in omega (arith, head-class)
 
         from : Linked allRanks N n t 0 0 x class
         from = rw (ex, ec) (Linked.onward N (omega arith) (ranked N) joins (R .linked d head-below (λ q. omega (arith, head-class))))
 
 -- every dart of the queue has been at the head: all that is reached is marked
-pub spun-end : {N n head tail count : ℕ} {t w : List ℕ} → Valid byRank N n t → 0 < n → Spun N n t head tail count w → tail ≤ head → Spanned N n t count w
+pub spun-end : {N n head tail count : ℕ} {t w : List ℕ} → Valid byDart N n t → 0 < n → Spun N n t head tail count w → tail ≤ head → Spanned N n t count w
 spun-end {N} {n} {head} {tail} {count} {t} {w} v h R k = record {
   linked = R .linked;
   reached = λ d r. reached-marked (R .queue) (λ p hf ht i hi q. all p ht i hi (ℕ-discrete i N)) h (R .rooted) r .1;
   counted = λ A. let (l, z, P) = R .begun in sym z ∙ cells-unique (valid-closed v) N l (picked l P A);
 }
   where
-    all : (p : ℕ) → p < tail → (i : ℕ) → i ≤ N → Dec (i ≡ N) → (link byRank N n t i (queued n w p) < n) × Marked w (link byRank N n t i (queued n w p))
+    all : (p : ℕ) → p < tail → (i : ℕ) → i ≤ N → Dec (i ≡ N) → (link byDart N n t i (queued n w p) < n) × Marked w (link byDart N n t i (queued n w p))
     all p ht i hi (yes e) = (v .inside i (queued n w p) hi (R .queue .darts p ht), rw e (R .crossed p (omega arith)))
     all p ht i hi (no e) = R .explored p (omega arith) ht i hi (but-yes N i e)
 
-    picked : (l : List ℕ) → Picks (λ d. (d < n) × Marked w d) (Cell byRank N n t N) l → AllMarked n w → Representatives byRank N n t N l
+    picked : (l : List ℕ) → Picks (λ d. (d < n) × Marked w d) (Cell byDart N n t N) l → AllMarked n w → Representatives byDart N n t N l
     picked l P A = record { member = λ p l. P .member p l .0; all = λ d l. P .all d ((l, A d l)); once = P .once }

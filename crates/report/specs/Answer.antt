@@ -3,7 +3,7 @@ use Prim.Native.Nat.{ℕ}
 use mathlib.Core.Bool.{false}
 use mathlib.Core.List.{List}
 use lib.ListN.{replicate}
-use Rattle.rules.specs.Map.{byRank}
+use Rattle.rules.specs.Map.{byDart}
 use Rattle.rules.specs.declared.ReportAnswer.{ReportAnswer}
 use Rattle.rules.specs.Report.{cellCounts, freePairs, orientable}
 
@@ -13,4 +13,4 @@ refusalOf nr p = record { number = nr; place = p; cells = replicate 7 0; free = 
 
 -- the counts of a map that passes every test
 unfoldable pub countedOf : ℕ → ℕ → List ℕ → ReportAnswer
-countedOf N n t = record { number = 0; place = 0; cells = cellCounts byRank N n t; free = freePairs byRank N n t; orientable = orientable byRank N n t }
+countedOf N n t = record { number = 0; place = 0; cells = cellCounts byDart N n t; free = freePairs byDart N n t; orientable = orientable byDart N n t }

@@ -5,7 +5,7 @@ ghost use mathlib.Core.Path.{_≡_};
 ghost use Prim.Native.Nat.{_+_, _*_, _≤_, _<_};
 ghost use lib.ListN.{length, drop};
 ghost use Rattle.rules.specs.Lists.{countBelow};
-ghost use Rattle.rules.specs.Map.{byRank, Limits, Valid, size, blank};
+ghost use Rattle.rules.specs.Map.{byDart, Limits, Valid, size, blank};
 ghost use Rattle.rules.specs.Report.{reportAnswer, reportWork};
 ghost use Rattle.flood.specs.Flood.{Queue};
 ghost use Rattle.report.specs.Answer.{refusalOf, countedOf};
@@ -21,7 +21,7 @@ pub struct Spanning {
 // The number of links of one rank that stay within a class. A count and no way out of the loop let the compiler go over
 // them without a branch.
 pub fn alike_at(tables: &[u16], work: &[u16], dim: usize, darts: usize, rank: usize) -> u16
-    requires { ⌜ Limits dim darts (now tables) × Valid byRank dim darts (now tables) × (darts ≤ length (now work))
+    requires { ⌜ Limits dim darts (now tables) × Valid byDart dim darts (now tables) × (darts ≤ length (now work))
         × (rank ≤ dim) ⌝ }
     ensures { λ r. ⌜ r
         ≡ countBelow darts (λ d. alike dim darts (now (tables .entry)) (now (work .entry)) (rank * darts + d)) ⌝ }
@@ -40,7 +40,7 @@ pub fn alike_at(tables: &[u16], work: &[u16], dim: usize, darts: usize, rank: us
 
 // The number of links that stay within a class.
 pub fn links_alike(tables: &[u16], work: &[u16], dim: usize, darts: usize) -> u32
-    requires { ⌜ Limits dim darts (now tables) × Valid byRank dim darts (now tables) × (darts ≤ length (now work)) ⌝ }
+    requires { ⌜ Limits dim darts (now tables) × Valid byDart dim darts (now tables) × (darts ≤ length (now work)) ⌝ }
     ensures { λ r. ⌜ r ≡ countBelow (size dim darts) (alike dim darts (now (tables .entry)) (now (work .entry))) ⌝ }
 {
     let mut alike: u32 = 0;
@@ -62,7 +62,7 @@ pub fn span_step(
     head: usize,
     s: Spanning,
 ) -> Spanning
-    requires { ⌜ Limits dim darts (now tables) × Valid byRank dim darts (now tables) × (head < s .tail)
+    requires { ⌜ Limits dim darts (now tables) × Valid byDart dim darts (now tables) × (head < s .tail)
         × Spun dim darts (now tables) head (s .tail) (s .cells) (now work) ⌝ }
     ensures { λ r. ⌜ Spun dim darts (now (tables .entry)) (head + 1) (r .tail) (r .cells) (now (work .exit))
         × (drop (2 * darts) (now (work .exit)) ≡ drop (2 * darts) (now (work .entry))) ⌝ }
@@ -84,7 +84,8 @@ pub fn span_step(
 // All that is reached from dart 0 is marked, one N-cell after another; a class says by how many links. The answer is
 // how many darts that is and the number of those N-cells.
 pub fn span(tables: &[u16], work: &mut [u16], dim: usize, darts: usize) -> Spanning
-    requires { ⌜ Limits dim darts (now tables) × Valid byRank dim darts (now tables) × (2 * darts ≤ length (now work)) ⌝ }
+    requires { ⌜ Limits dim darts (now tables) × Valid byDart dim darts (now tables)
+        × (2 * darts ≤ length (now work)) ⌝ }
     ensures { λ r. ⌜ Spanned dim darts (now (tables .entry)) (r .cells) (now (work .exit))
         × Queue darts (r .tail) (now (work .exit))
         × (drop (2 * darts) (now (work .exit)) ≡ drop (2 * darts) (now (work .entry))) ⌝ }
@@ -118,7 +119,7 @@ pub fn refusal(number: u32, place: u32) -> ReportAnswer
 // in place stays within a class; so they do exactly if no other link does: if as many links stay within a class as
 // pairs are free.
 pub fn counted(tables: &[u16], work: &mut [u16], dim: usize, darts: usize, top: u32) -> ReportAnswer
-    requires { ⌜ Limits dim darts (now tables) × Valid byRank dim darts (now tables) × (2 * darts ≤ length (now work))
+    requires { ⌜ Limits dim darts (now tables) × Valid byDart dim darts (now tables) × (2 * darts ≤ length (now work))
         × Spanned dim darts (now tables) top (now work) × AllMarked darts (now work) ⌝ }
     ensures { λ r. ⌜ (r ≡ countedOf dim darts (now (tables .entry)))
         × (now (work .exit) ≡ blank (2 * darts) (now (work .entry))) ⌝ }
@@ -139,8 +140,8 @@ pub fn counted(tables: &[u16], work: &mut [u16], dim: usize, darts: usize, top: 
 // The cell report of posted tables. What is reached from dart 0 serves refusal 9, the two classes and the number of
 // N-cells.
 pub fn report(dim: usize, darts: usize, tables: &[u16], work: &mut [u16]) -> ReportAnswer
-    ensures { λ r. ⌜ (r ≡ reportAnswer byRank dim darts (now (tables .entry)) (now (work .entry)))
-        × (now (work .exit) ≡ reportWork byRank dim darts (now (tables .entry)) (now (work .entry))) ⌝ }
+    ensures { λ r. ⌜ (r ≡ reportAnswer byDart dim darts (now (tables .entry)) (now (work .entry)))
+        × (now (work .exit) ≡ reportWork byDart dim darts (now (tables .entry)) (now (work .entry))) ⌝ }
 {
     let first = checker::misfit(dim, darts, 0, tables.len(), work.len());
     if first != 0 {

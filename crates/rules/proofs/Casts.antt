@@ -1,5 +1,5 @@
--- Tables held otherwise: in another layout, or with more entries behind. A walk looks at the links alone and its tables go along, so it is the same walk: writer
--- and reader do the same whatever room the reader is lent, and whatever the layout. Rests on Layouts and Names.
+-- Tables held otherwise: in another layout, or with more entries behind. A walk looks at the links alone and its tables go along, so it is the same walk:
+-- writer and reader do the same whatever room the reader is lent, and whatever the layout. Rests on Layouts and Names.
 use Prim.Native.Nat.{ℕ, zero, suc, _+_, _-_, _≤_, _<_}
 use mathlib.Core.Path.{_≡_, refl, ap, sym, _∙_}
 use mathlib.Core.Bool.{true}
@@ -200,7 +200,8 @@ write-start Y N n t m root h6 hn hr A =
     (write-cast (enough N n) m m root (start Y N n []) (root ∷ []) (unfold start in behind-casts Y N n (drop (size N n) t)) (unfold start in λ i d hi. refl)
     (start-inv Y N n [] (omega arith) hn h6) (start-names Y N n [] m root hr) (unfold start in A))
 
-start-exchanged : (Y Z : Layout) (N n : ℕ) → start Z N n (exchanged Y Z N n (blank (size N n) [])) ≡ cast Z (exchanged Y Z N n) (start Y N n (blank (size N n) []))
+start-exchanged : (Y Z : Layout) (N n : ℕ)
+    → start Z N n (exchanged Y Z N n (blank (size N n) [])) ≡ cast Z (exchanged Y Z N n) (start Y N n (blank (size N n) []))
 unfolding start cast
 start-exchanged Y Z N n =
     let l = blank-room (size N n) [] in

@@ -155,7 +155,8 @@ module _ (Y Z : Layout) where
   -- a whole read of any bytes: equal answers, the tables left exchanged
   pub read-agrees : (bytes t : List ℕ)
       → let (N, n) = headerSizes (unpack bytes) in
-        (readAnswer Z bytes (exchanged Y Z N n t) ≡ readAnswer Y bytes t) × (readTables Z bytes (exchanged Y Z N n t) ≡ exchanged Y Z N n (readTables Y bytes t))
+      (readAnswer Z bytes (exchanged Y Z N n t) ≡ readAnswer Y bytes t)
+      × (readTables Z bytes (exchanged Y Z N n t) ≡ exchanged Y Z N n (readTables Y bytes t))
   unfolding readAnswer readTables leaves leftCast
   read-agrees bytes t =
       let e = read-carried bytes t (for-sizes Y Z t (headerSizes (unpack bytes))) in
@@ -169,9 +170,9 @@ module _ (Y Z : Layout) where
     -- a page, on any session: equal records and answers, the tables exchanged
     pub page-agrees : (bytes t : List ℕ)
         → let (N, n) = sizes s (unpack bytes) in
-          let u = exchanged Y Z N n t in
-          (pageCall Z s bytes u .session ≡ pageCall Y s bytes t .session) × (pageCall Z s bytes u .answer ≡ pageCall Y s bytes t .answer)
-          × (pageCall Z s bytes u .tables ≡ exchanged Y Z N n (pageCall Y s bytes t .tables))
+        let u = exchanged Y Z N n t in
+        (pageCall Z s bytes u .session ≡ pageCall Y s bytes t .session) × (pageCall Z s bytes u .answer ≡ pageCall Y s bytes t .answer)
+        × (pageCall Z s bytes u .tables ≡ exchanged Y Z N n (pageCall Y s bytes t .tables))
     unfolding pageCall fetching leftCast
     page-agrees bytes t =
         let C = for-sizes Y Z t (sizes s (unpack bytes)) in
@@ -182,8 +183,9 @@ module _ (Y Z : Layout) where
     -- its closing
     pub close-agrees : (t : List ℕ)
         → let (N, n) = sizes s [] in
-          let u = exchanged Y Z N n t in
-          (close Z s u .session ≡ close Y s t .session) × (close Z s u .answer ≡ close Y s t .answer) × (close Z s u .tables ≡ exchanged Y Z N n (close Y s t .tables))
+        let u = exchanged Y Z N n t in
+        (close Z s u .session ≡ close Y s t .session) × (close Z s u .answer ≡ close Y s t .answer)
+        × (close Z s u .tables ≡ exchanged Y Z N n (close Y s t .tables))
     unfolding leftCast
     close-agrees t =
         let e = close-carried s t seven (for-sizes Y Z t (sizes s [])) in
@@ -192,11 +194,11 @@ module _ (Y Z : Layout) where
   -- a new session after any pages, and its closing: equal records and answers, the tables exchanged
   pub session-agrees : (ps : List (List ℕ)) (t : List ℕ)
       → let (N, n) = headerSizes (unpack (whole ps)) in
-        let a = pages Y (opening t) ps in
-        let b = pages Z (opening (exchanged Y Z N n t)) ps in
-        (b .session ≡ a .session) × (b .answer ≡ a .answer) × (b .tables ≡ exchanged Y Z N n (a .tables))
-        × (close Z (b .session) (b .tables) .answer ≡ close Y (a .session) (a .tables) .answer)
-        × (close Z (b .session) (b .tables) .tables ≡ exchanged Y Z N n (close Y (a .session) (a .tables) .tables))
+      let a = pages Y (opening t) ps in
+      let b = pages Z (opening (exchanged Y Z N n t)) ps in
+      (b .session ≡ a .session) × (b .answer ≡ a .answer) × (b .tables ≡ exchanged Y Z N n (a .tables))
+      × (close Z (b .session) (b .tables) .answer ≡ close Y (a .session) (a .tables) .answer)
+      × (close Z (b .session) (b .tables) .tables ≡ exchanged Y Z N n (close Y (a .session) (a .tables) .tables))
   unfolding recordFor tablesFor leaves leftCast
   session-agrees ps t =
       let z = headerSizes (unpack (whole ps)) in
@@ -206,8 +208,7 @@ module _ (Y Z : Layout) where
       let (p', q') = pages-read Z ps u in
       let (a, b, c) = sofar-agrees in
       let y = pages-are Y ps t in
-      let y' = pages-are Z ps u in
-      (
+      let y' = pages-are Z ps u in (
         ap (λ (x : PageLeft). x .session) y' ∙ (a ∙ sym (ap (λ (x : PageLeft). x .session) y)),
         ap (λ (x : PageLeft). x .answer) y' ∙ (b ∙ sym (ap (λ (x : PageLeft). x .answer) y)),
         ap (λ (x : PageLeft). x .tables) y' ∙ (c ∙ sym (ap (λ (x : PageLeft). exchanged Y Z (z .0) (z .1) (x .tables)) y)),

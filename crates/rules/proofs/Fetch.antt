@@ -373,7 +373,8 @@ finished-goes {Y} (Fits.header {bs} h) some bytes t e q =
     let l = leb-true 16 (length (bs ++ unpack bytes)) (rw (waiting-idle Header bs) at e) in
     omega (arith, fits-header f)
 finished-goes {Y} (Fits.running {w} {bs} v h a) some bytes t e q =
-    let f : Fits Y (Reading.running w (bs ++ unpack bytes)) = subst (Fits Y) q (feed-fits (Fits.running {bs = bs} v h a) (unpack bytes) t (whole-bytes bytes)) in
+    let f : Fits Y (Reading.running w (bs ++ unpack bytes)) = subst (Fits Y) q
+    (feed-fits (Fits.running {bs = bs} v h a) (unpack bytes) t (whole-bytes bytes)) in
     let g : isWhole (takeSymbol (bs ++ unpack bytes)) ≡ false = rw (begins-short (bs ++ unpack bytes) (fits-running f)) in
     let k : isWhole (takeSymbol (bs ++ unpack bytes)) ≡ true = rw (waiting-held Running w bs) at e in
     let z : _≡_ {A = ℕ} 0 1 = cc in
@@ -408,7 +409,8 @@ enough-left (Fits.complete {w = w1} v h o c) (y ∷ ys) t w e = unfold unpack bi
 enough-left (Fits.refused h) ys t w e = not-refused e
 
 -- of an accepted stream at least as many bytes are left as are to be fetched, wherever it is cut; and where there are none to fetch, none is left
-pub never-past : (Y : Layout) (xs ys t : List ℕ) → readAnswer Y (xs ++ ys) t .number ≡ 0 → (fetchOf (recordFor Y xs t) ≤ length ys) × (fetchOf (recordFor Y xs t) ≡ 0 → ys ≡ [])
+pub never-past : (Y : Layout) (xs ys t : List ℕ) → readAnswer Y (xs ++ ys) t .number ≡ 0
+    → (fetchOf (recordFor Y xs t) ≤ length ys) × (fetchOf (recordFor Y xs t) ≡ 0 → ys ≡ [])
 unfolding readAnswer readWhole recordFor
 never-past Y xs ys t e =
     let r = readingOf Y (unpack xs) t in
@@ -443,13 +445,15 @@ client-stops : (Y : Layout) (xs ys t : List ℕ) → fetchOf (recordFor Y xs t) 
 client-stops Y xs ys t z n = rw (n, append-nil) (Client.stops z)
 
 -- with at most as many pages to come as bytes
-client-from : (Y : Layout) (k : ℕ) (xs ys t : List ℕ) → length ys ≤ k → readAnswer Y (xs ++ ys) t .number ≡ 0 → Client Y (sofar Y xs t) ys (sofar Y (xs ++ ys) t)
+client-from : (Y : Layout) (k : ℕ) (xs ys t : List ℕ) → length ys ≤ k → readAnswer Y (xs ++ ys) t .number ≡ 0
+    → Client Y (sofar Y xs t) ys (sofar Y (xs ++ ys) t)
 client-from Y zero xs ys t h e =
     let (l, n) = never-past Y xs ys t e in
     let z : fetchOf (recordFor Y xs t) ≡ 0 = omega arith in
     client-stops Y xs ys t z (n z)
 client-from Y (suc k) xs ys t h e =
-    go (ℕ-discrete (fetchOf (recordFor Y xs t)) 0) (λ l q. client-from Y k (xs ++ take (fetchOf (recordFor Y xs t)) ys) (drop (fetchOf (recordFor Y xs t)) ys) t l q)
+    go (ℕ-discrete (fetchOf (recordFor Y xs t)) 0)
+    (λ l q. client-from Y k (xs ++ take (fetchOf (recordFor Y xs t)) ys) (drop (fetchOf (recordFor Y xs t)) ys) t l q)
   where
     f : ℕ
     f = fetchOf (recordFor Y xs t)

@@ -86,7 +86,8 @@ step-renamed {f} {m} {m'} w names v M A K = go (head w) refl
         rw (e, K .links j (getD names b mark) (n .ranked) hd) (with' j b (getD names b mark) _ hd hx (partner w j b))
 
 -- and so every walk on its way
-pub write-renamed : {f : ℕ → ℕ} {m m' : List ℕ} {root : ℕ} (k : ℕ) (w : Walk) (names : List ℕ) → Inv w → Names m root w names → Valid (w .layout) (w .dim) (w .darts) m
+pub write-renamed : {f : ℕ → ℕ} {m m' : List ℕ} {root : ℕ} (k : ℕ) (w : Walk) (names : List ℕ) → Inv w → Names m root w names
+    → Valid (w .layout) (w .dim) (w .darts) m
     → Carries (w .layout) (w .layout) f (w .dim) (w .darts) m m' → write k m' w (map f names) ≡ renamed f (write k m w names)
 unfolding write
 write-renamed zero w names v M A K = unfold renamed in refl
@@ -106,7 +107,8 @@ write-renamed {f} {m} {m'} {root} (suc k) w names v M A K = rw (step-renamed w n
         let K' : Carries (y .walk .layout) (y .walk .layout) f (y .walk .dim) (y .walk .darts) m m' = rw (g .grows .layout, g .grows .dim, g .grows .darts) K in
         rw (y .eq) (unfold writeOn renamedStep renamed prepend in ap (prepend (y .out)) (rec (y .walk) (y .names') (g .inv) (y .keeps) A' K'))
 
-module _ {Y Z : Layout} {f : ℕ → ℕ} {N n : ℕ} {m m' : List ℕ} (K : Carries Y Z f N n m m') (h6 : N ≤ 6) (hn : n ≤ 4096) {root : ℕ} (hr : root < n) (A : Valid Y N n m) where
+module _ {Y Z : Layout} {f : ℕ → ℕ} {N n : ℕ} {m m' : List ℕ} (K : Carries Y Z f N n m m')
+    (h6 : N ≤ 6) (hn : n ≤ 4096) {root : ℕ} (hr : root < n) (A : Valid Y N n m) where
   -- the whole walk: the same symbols, the renamed names
   pub walk-renamed : walked Z N n m' (f root) ≡ renamed f (walked Y N n m root)
   walk-renamed = walk-links same h6 hn (K .low root hr) (valid-to carried A) ∙ one

@@ -14,7 +14,8 @@ use Rattle.rules.specs.Lists.{listOf}
 use Rattle.rules.specs.Map.{Layout, mark, size, place, link, blank}
 use Rattle.rules.specs.Exchange.{rankAt, dartAt, movedPlace, exchanged}
 use Rattle.rules.proofs.Lists.{getD-listOf, length-listOf, getD-any}
-use Rattle.rules.proofs.Places.{rank-place, dart-place, place-below, rank-at, dart-at, place-at, link-entry, link-none, getD-blank, getD-past, blank-long}
+use Rattle.rules.proofs.Places.{rank-place, dart-place, place-below, rank-at, dart-at, place-at, link-entry, link-none, getD-blank, getD-past}
+use Rattle.rules.proofs.Places.{blank-long}
 
 -- tables of a layout with given links
 unfoldable pub laid : Layout → ℕ → ℕ → (ℕ → ℕ → ℕ) → List ℕ
@@ -66,11 +67,11 @@ moved-same Y N n p = go (decLt p (size N n))
 module _ (Y Z : Layout) (N n : ℕ) (t : List ℕ) where
   pub length-exchanged : length (exchanged Y Z N n t) ≡ length t
   unfolding exchanged
-  length-exchanged = length-listOf (length t) (λ p. getD t (movedPlace Z Y N n p) mark)
+  length-exchanged = length-listOf (length t) _
 
   pub entry-exchanged : (p : ℕ) → p < length t → getD (exchanged Y Z N n t) p mark ≡ getD t (movedPlace Z Y N n p) mark
   unfolding exchanged
-  entry-exchanged p h = getD-listOf (length t) (λ p. getD t (movedPlace Z Y N n p) mark) p mark h
+  entry-exchanged p h = getD-listOf (length t) _ p mark h
 
   -- what is past the (N+1)·n entries is as it was
   pub past-exchanged : (p : ℕ) → size N n ≤ p → p < length t → getD (exchanged Y Z N n t) p mark ≡ getD t p mark
@@ -119,7 +120,8 @@ module _ (Y Z : Layout) (N n : ℕ) (t : List ℕ) where
         lr = length-set (exchanged Y Z N n t) (place Z N n i d) v ∙ length-exchanged
 
         at : (p : ℕ) → p < length t → getD left p mark ≡ getD (set t q v) (movedPlace Z Y N n p) mark
-        at p h = unfold exchanged in getD-listOf (length (set t q v)) (λ p. getD (set t q v) (movedPlace Z Y N n p) mark) p mark (omega (arith, length-set t q v))
+        at p h = unfold exchanged in getD-listOf (length (set t q v)) (λ p. getD (set t q v) (movedPlace Z Y N n p) mark) p mark
+            (omega (arith, length-set t q v))
 
         entry : (p : ℕ) → p < length t → Dec (p ≡ place Z N n i d) → getD left p mark ≡ getD right p mark
         entry p h (yes e) =
@@ -136,7 +138,8 @@ module _ (Y Z : Layout) (N n : ℕ) (t : List ℕ) where
 
 -- the exchange and its way back are inverse
 pub exchanged-back : (Y Z : Layout) (N n : ℕ) (t : List ℕ) → size N n ≤ length t → exchanged Z Y N n (exchanged Y Z N n t) ≡ t
-exchanged-back Y Z N n t room = ext-getD mark (exchanged Z Y N n u) t (length-exchanged Z Y N n u ∙ lu) (λ p h. entry p (omega (arith, length-exchanged Z Y N n u, lu)))
+exchanged-back Y Z N n t room = ext-getD mark (exchanged Z Y N n u) t (length-exchanged Z Y N n u ∙ lu)
+    (λ p h. entry p (omega (arith, length-exchanged Z Y N n u, lu)))
   where
     u : List ℕ
     u = exchanged Y Z N n t

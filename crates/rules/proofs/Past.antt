@@ -22,7 +22,8 @@ use Rattle.rules.specs.declared.Session.{Session}
 use Rattle.rules.specs.declared.State.{State}
 use Rattle.rules.specs.declared.State.the-variants.{Header, Running, Complete, Closed, Refused}
 use Rattle.rules.specs.Lists.{listOf, someBelow, first}
-use Rattle.rules.specs.Map.{Layout, dimFits, dartsFit, size, link, pairs, pairsFor, pairsOf, pairAt, broken, firstBroken, allRanks, spread, within, reaches}
+use Rattle.rules.specs.Map.{Layout, dimFits, dartsFit, size, link, pairs, pairsFor, pairsOf, pairAt, broken, firstBroken, allRanks, spread, within}
+use Rattle.rules.specs.Map.{reaches}
 use Rattle.rules.specs.Walk.{Walk, start, Head, head, unknown, Partner, partner, pass, tie, steps, Symbol, apply, enough, Walked, namesOf}
 use Rattle.rules.specs.Stream.{value, unpack, Taken, takeSymbol}
 use Rattle.rules.specs.Naming.{naming}
@@ -34,7 +35,8 @@ use Rattle.rules.specs.Writing.{stream, startVerdict, writeVerdict, page
 use Rattle.rules.specs.Reading.{Run, Step, permitted, fault, allow, stepTaken, stepWith, stepAt, step, onward, run, runAll, Reading, spoiled}
 use Rattle.rules.specs.Reading.{test, manifold, finish, settle, begun, headerDim, headerDarts, readHeader, readingOf, closing, goodAnswer}
 use Rattle.rules.specs.Reading.{answerOf, tablesOf, readWhole, readAnswer, readTables}
-use Rattle.rules.specs.Session.{idle, held, store, walkAt, walkOf, waitingOf, valueFits, positionsFit, entryFits, entriesFit, walkFits, asks, begins, allDone, fitAs}
+use Rattle.rules.specs.Session.{idle, held, store, walkAt, walkOf, waitingOf, valueFits, positionsFit, entryFits, entriesFit, walkFits, asks, begins}
+use Rattle.rules.specs.Session.{allDone, fitAs}
 use Rattle.rules.specs.Fetch.{fetching, pageCall}
 use Rattle.rules.specs.Session.{fit, Left, unchanged, leaves, goOn, afterEnd, pageAs, closeAs, ifFit, page, close}
 use Rattle.rules.specs.Report.{reportAnswerOf, reportAnswer, reportWorkAfter, reportWork}
@@ -94,7 +96,8 @@ refuse-moved Y Z N n false nr p p' v v' f e = e refl
 -- where one is refused and the other by the same number, at the same link's position, the calls leave the same
 module _ (Y Z : Layout) (N n root : ℕ) (t u work : List ℕ) (nr p : ℕ) (e : verdict Y N n root t (length work) ≡ Verdict.refused nr p)
     (q : verdict Z N n root u (length work) ≡ movedVerdict Y Z N n (Verdict.refused nr p)) where
-  pub refused-check : (checkAnswer Z N n root u work ≡ movedCheck Y Z N n (checkAnswer Y N n root t work)) × (checkWork Z N n root u work ≡ checkWork Y N n root t work)
+  pub refused-check : (checkAnswer Z N n root u work ≡ movedCheck Y Z N n (checkAnswer Y N n root t work))
+      × (checkWork Z N n root u work ≡ checkWork Y N n root t work)
   unfolding checkAnswer checkWork checkAnswerOf workAfter movedVerdict movedCheck
   refused-check = (rw (q, e), rw (q, e))
 
@@ -562,7 +565,8 @@ walk-fits-cast {Y} {Z} {f} s t C = go (leb (size (s .dim) (s .darts)) (length t)
   where
     go : (b : Bool) → leb (size (s .dim) (s .darts)) (length t) ≡ b → walkFits Z s (f t) ≡ walkFits Y s t
     go true e = walk-fits-links s t (f t) (cast-same (C .casts) t (leb-true (size (s .dim) (s .darts)) (length t) e))
-    go false e = unfold walkFits in rw (C .long, e) (cut-off (dimFits (s .dim) && dartsFit (s .darts)) (leb 1 (s .count)) (leb (s .count) (s .darts)) (positionsFit s) _ _)
+    go false e = unfold walkFits in rw (C .long, e)
+        (cut-off (dimFits (s .dim) && dartsFit (s .darts)) (leb 1 (s .count)) (leb (s .count) (s .darts)) (positionsFit s) _ _)
 
 -- whether the next step needs a symbol is the same
 asks-cast : {Z : Layout} {f : List ℕ → List ℕ} (w : Walk) → CastsOf w Z f → Inv w → asks (cast Z f w) (head w) ≡ asks w (head w)
@@ -772,17 +776,20 @@ pub record LinksLeft (Y : Layout) (N n : ℕ) (l l' : Left) : Type 0 where
 sizes-alike : (Y : Layout) (s : Session) (ys : List Bool) (t u : List ℕ) → SameMap Y Y (sizes s ys .0) (sizes s ys .1) t u → Alike (reach s ys) t u
 sizes-alike Y s ys t u S = rw (sizes-reach s ys) at (map-alike S)
 
-links-left : (Y : Layout) (s : Session) (ys : List Bool) (t : List ℕ) (l l' : Left) → SameLeft (reach s ys) t l l' → LinksLeft Y (sizes s ys .0) (sizes s ys .1) l l'
+links-left : (Y : Layout) (s : Session) (ys : List Bool) (t : List ℕ) (l l' : Left) → SameLeft (reach s ys) t l l'
+    → LinksLeft Y (sizes s ys .0) (sizes s ys .1) l l'
 links-left Y s ys t l l' L = record { session = L .session; answer = L .answer; links = alike-same (rw (sizes-reach s ys) (L .entries)) }
 
 pub fit-links : (Y : Layout) (s : Session) (t u : List ℕ) → length (s .positions) ≡ 7 → SameMap Y Y (sizes s [] .0) (sizes s [] .1) t u → fit Y s t ≡ fit Y s u
 fit-links Y s t u seven S = fit-alike Y s t u seven (sizes-alike Y s [] t u S)
 
-pub page-links : (Y : Layout) (s : Session) (bytes t u : List ℕ) → length (s .positions) ≡ 7 → SameMap Y Y (sizes s (unpack bytes) .0) (sizes s (unpack bytes) .1) t u
+pub page-links : (Y : Layout) (s : Session) (bytes t u : List ℕ) → length (s .positions) ≡ 7
+    → SameMap Y Y (sizes s (unpack bytes) .0) (sizes s (unpack bytes) .1) t u
     → LinksLeft Y (sizes s (unpack bytes) .0) (sizes s (unpack bytes) .1) (page Y s bytes t) (page Y s bytes u)
 page-links Y s bytes t u seven S = links-left Y s (unpack bytes) t _ _ (page-alike Y s bytes t u seven (sizes-alike Y s (unpack bytes) t u S))
 
-pub fetch-links : (Y : Layout) (s : Session) (bytes t u : List ℕ) → length (s .positions) ≡ 7 → SameMap Y Y (sizes s (unpack bytes) .0) (sizes s (unpack bytes) .1) t u
+pub fetch-links : (Y : Layout) (s : Session) (bytes t u : List ℕ) → length (s .positions) ≡ 7
+    → SameMap Y Y (sizes s (unpack bytes) .0) (sizes s (unpack bytes) .1) t u
     → pageCall Y s bytes t .answer .fetch ≡ pageCall Y s bytes u .answer .fetch
 fetch-links Y s bytes t u seven S = fetch-alike Y s bytes t u seven (sizes-alike Y s (unpack bytes) t u S)
 

@@ -231,5 +231,6 @@ map-alike {Y} {N} {n} {t} {u} S = ext-getD mark (take k t) (take k u) (lt ∙ sy
         let i = rankAt Y N n p in
         let d = dartAt Y N n p in
         let hd = dart-at Y N n p h in
-        let q : getD t p mark ≡ getD u p mark = rw (link-entry Y N n t i d hd, link-entry Y N n u i d hd, place-at Y N n p h) at (links-same (S .links) i d (rank-at Y N n p h)) in
+        let q : getD t p mark ≡ getD u p mark = rw (link-entry Y N n t i d hd, link-entry Y N n u i d hd, place-at Y N n p h) at
+        (links-same (S .links) i d (rank-at Y N n p h)) in
         getD-take k t p mark h ∙ (q ∙ sym (getD-take k u p mark h))

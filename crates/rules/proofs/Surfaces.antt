@@ -12,7 +12,7 @@ use lib.Dec.{eqb}
 use borrow.Author.Tests.{eq-eqb, ne-eqb}
 use Rattle.rules.specs.declared.ReportAnswer.{ReportAnswer}
 use Rattle.rules.specs.Lists.{allBelow}
-use Rattle.rules.specs.Map.{Layout, byRank, size, place, link}
+use Rattle.rules.specs.Map.{Layout, byDart, size, place, link}
 use Rattle.rules.specs.Check.{Verdict, verdict}
 use Rattle.rules.specs.Report.{freePairs, differ, crosses, apart, someClasses, orientable, cellCounts, reportAnswerOf, reportAnswer}
 use Rattle.rules.proofs.Lists.{and-right, not-both, all-below, below-same}
@@ -30,7 +30,14 @@ formerOrientable Y N n t = someClasses n (formerApart Y N n t)
 
 -- document 01: a refusal has all counts 0 and is not orientable
 unfoldable pub formerAnswerOf : (Y : Layout) → ℕ → ℕ → List ℕ → Verdict → ReportAnswer
-formerAnswerOf Y N n t Verdict.fine = record { number = 0; place = 0; cells = cellCounts Y N n t; free = freePairs Y N n t; orientable = formerOrientable Y N n t }
+formerAnswerOf Y N n t Verdict.fine = record {
+  number = 0;
+  place = 0;
+  cells = cellCounts Y N n t;
+  free = freePairs Y N n t;
+  orientable =
+      formerOrientable Y N n t;
+}
 formerAnswerOf Y N n t (Verdict.refused nr p) = record { number = nr; place = p; cells = replicate 7 0; free = 0; orientable = false }
 
 -- document 01's report
@@ -124,19 +131,19 @@ module _ (Y : Layout) (N n : ℕ) (t work : List ℕ) where
       go Verdict.fine e = rw (closed-agree Y N n t (fine-passes Y N n 0 t (length work) e .limits .darts .0) F) refl
       go (Verdict.refused nr p) e = refl
 
--- one square, darts 2s and 2s+1 on side s: a0 and a1 are those of each square, a2 is given
-pub square : List ℕ → List ℕ
-square a2 = 1 ∷ 0 ∷ 3 ∷ 2 ∷ 5 ∷ 4 ∷ 7 ∷ 6 ∷ 7 ∷ 2 ∷ 1 ∷ 4 ∷ 3 ∷ 6 ∷ 5 ∷ 0 ∷ a2
+-- one square, darts 2s and 2s+1 on side s: a0 and a1 are those of each square, a2 is given, dart by dart
+pub square : (ℕ → ℕ) → List ℕ
+square a2 = 1 ∷ 7 ∷ a2 0 ∷ 0 ∷ 2 ∷ a2 1 ∷ 3 ∷ 1 ∷ a2 2 ∷ 2 ∷ 4 ∷ a2 3 ∷ 5 ∷ 3 ∷ a2 4 ∷ 4 ∷ 6 ∷ a2 5 ∷ 7 ∷ 5 ∷ a2 6 ∷ 6 ∷ 0 ∷ a2 7 ∷ []
 
 -- no side joined
 pub openSquare : List ℕ
-openSquare = square (0 ∷ 1 ∷ 2 ∷ 3 ∷ 4 ∷ 5 ∷ 6 ∷ 7 ∷ [])
+openSquare = square (λ d. d)
 
 -- two opposite sides joined with a twist
 pub moebiusBand : List ℕ
-moebiusBand = square (4 ∷ 5 ∷ 2 ∷ 3 ∷ 0 ∷ 1 ∷ 6 ∷ 7 ∷ [])
+moebiusBand = square (λ d. getD (4 ∷ 5 ∷ 2 ∷ 3 ∷ 0 ∷ 1 ∷ 6 ∷ 7 ∷ []) d 0)
 
 -- the open square is orientable, where document 01 says that it is not; the Moebius band is not, though it is open
-pub square-and-band : (orientable byRank 2 8 openSquare ≡ true) × (formerOrientable byRank 2 8 openSquare ≡ false) × (orientable byRank 2 8 moebiusBand ≡ false)
+pub square-and-band : (orientable byDart 2 8 openSquare ≡ true) × (formerOrientable byDart 2 8 openSquare ≡ false) × (orientable byDart 2 8 moebiusBand ≡ false)
 unfolding orientable formerOrientable apart formerApart crosses differ someClasses allBelow place link square openSquare moebiusBand
 square-and-band = (refl, refl, refl)

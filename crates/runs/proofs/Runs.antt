@@ -7,7 +7,7 @@ use mathlib.Core.List.{List}
 use native.Mathlib.Omega.{arith}
 use lib.ListN.{length}
 use Rattle.rules.specs.Lists.{sum}
-use Rattle.rules.specs.Map.{byRank, size}
+use Rattle.rules.specs.Map.{byDart, size}
 use Rattle.rules.specs.Walk.{Walk, Head, head, steps, enough}
 use Rattle.rules.specs.Stream.{bitsOf, Taken, takeSymbol}
 use Rattle.rules.specs.Reading.{Run, Step, stepAt, step, onward, run, runAll}
@@ -31,7 +31,7 @@ use Rattle.runs.specs.Runs.{signalRun, Runs}
 -- where a run stands that began at s0, c0 and t0
 pub record RunGoing (N n : ℕ) (s0 : Stand) (c0 : Cursor) (t0 page : List ℕ) (s : Stand) (c : Cursor) (t : List ℕ) : Type 0 where
   pub ready : Ready N n s c t page
-  pub left : runAll (walkAt byRank N n s0 t0) (atHand c0 page) ≡ runAll (walkAt byRank N n s t) (atHand c page)
+  pub left : runAll (walkAt byDart N n s0 t0) (atHand c0 page) ≡ runAll (walkAt byDart N n s t) (atHand c page)
   pub same : length t ≡ length t0
 
 pub going-start : (N n : ℕ) (s : Stand) (c : Cursor) (t page : List ℕ) → Ready N n s c t page → RunGoing N n s c t page s c t
@@ -83,19 +83,19 @@ module _ {N n : ℕ} {s0 : Stand} {c0 : Cursor} {t0 page : List ℕ} {k : ℕ} {
     (g : RunGoing N n s0 c0 t0 page (stand k ps) c t) where
   -- the walk here
   abbrev here : Walk
-  here = walkAt byRank N n (stand k ps) t
+  here = walkAt byDart N n (stand k ps) t
 
   -- the rules' step stops the run
-  stop : (x : Signal) (ps' t' : List ℕ) → step here (atHand c page) ≡ Step.stops (signalRun x (walkAt byRank N n (stand k ps') t') (atHand c page))
+  stop : (x : Signal) (ps' t' : List ℕ) → step here (atHand c page) ≡ Step.stops (signalRun x (walkAt byDart N n (stand k ps') t') (atHand c page))
       → (x ≡ Ended → c .waiting ≡ 0) → ((m : ℕ) → x ≡ Waits m → takeSymbol (atHand c page) ≡ Taken.short m) → Runs N n s0 c0 t0 page (ran (stand k ps') c x) t'
   stop x ps' t' e z b = record { tells = sym (g .left ∙ last); fits = g .ready .fits; inv = rw same (g .ready .inv); clean = z; short = b }
     where
-      same : walkAt byRank N n (stand k ps') t' ≡ here
+      same : walkAt byDart N n (stand k ps') t' ≡ here
       same =
-          sym (signal-walk x (walkAt byRank N n (stand k ps') t') (atHand c page))
-          ∙ stopped-walk (stopped here (atHand c page) (signalRun x (walkAt byRank N n (stand k ps') t') (atHand c page)) e)
+          sym (signal-walk x (walkAt byDart N n (stand k ps') t') (atHand c page))
+          ∙ stopped-walk (stopped here (atHand c page) (signalRun x (walkAt byDart N n (stand k ps') t') (atHand c page)) e)
 
-      last : runAll here (atHand c page) ≡ signalRun x (walkAt byRank N n (stand k ps') t') (atHand c page)
+      last : runAll here (atHand c page) ≡ signalRun x (walkAt byDart N n (stand k ps') t') (atHand c page)
       last = unfold runAll run onward enough in rw e
 
   -- all queues are empty
@@ -125,27 +125,27 @@ module _ {N n : ℕ} {s0 : Stand} {c0 : Cursor} {t0 page : List ℕ} {k : ℕ} {
         (λ m z. apart (Refused nr) (Waits m) (omega arith) z)
 
     module _ {rank k' : ℕ} {d : Cursor} (m : r ≡ turned.On rank k' d) where
-      goes : step here (atHand c page) ≡ Step.goes (walkAt byRank N n (stand k' ps') t') (atHand d page)
+      goes : step here (atHand c page) ≡ Step.goes (walkAt byDart N n (stand k' ps') t') (atHand d page)
       unfolding toldTurn
       goes = sym (rw m at (x .tells))
 
-      moves : Moved here (walkAt byRank N n (stand k' ps') t')
+      moves : Moved here (walkAt byDart N n (stand k' ps') t')
       moves =
-          let y = step-move here (atHand c page) (walkAt byRank N n (stand k' ps') t') (atHand d page) goes in
-          moved here (walkAt byRank N n (stand k' ps') t') (y .out) (g .ready .inv) (y .move)
+          let y = step-move here (atHand c page) (walkAt byDart N n (stand k' ps') t') (atHand d page) goes in
+          moved here (walkAt byDart N n (stand k' ps') t') (y .out) (g .ready .inv) (y .move)
 
       more-steps : (sum ps' ≡ suc (sum ps)) × (sum ps' ≤ size N n)
       unfolding steps walkAt total
-      more-steps = (moves .steps, steps-total (walkAt byRank N n (stand k' ps') t') (moves .inv))
+      more-steps = (moves .steps, steps-total (walkAt byDart N n (stand k' ps') t') (moves .inv))
 
       pub going-less : stepsLeft N n ps' < stepsLeft N n ps
       going-less = let q = more-steps in omega arith
 
-      more-left : runAll here (atHand c page) ≡ runAll (walkAt byRank N n (stand k' ps') t') (atHand d page)
+      more-left : runAll here (atHand c page) ≡ runAll (walkAt byDart N n (stand k' ps') t') (atHand d page)
       unfolding runAll run onward enough walkAt
       more-left =
           let q = more-steps in
-          let w' = walkAt byRank N n (stand k' ps') t' in
+          let w' = walkAt byDart N n (stand k' ps') t' in
           rw goes
           (fuel (size N n) (suc (size N n)) w' (atHand d page) (moves .inv) (unfold steps total walkAt in omega arith)
           (unfold steps total walkAt in omega arith))

@@ -6,7 +6,7 @@ use mathlib.Core.Bool.{Bool, true}
 use mathlib.Core.List.{List}
 use native.Mathlib.Omega.{arith}
 use lib.ListN.{length, getD, set, replicate}
-use Rattle.rules.specs.Map.{byRank, size, blank, Limits}
+use Rattle.rules.specs.Map.{byDart, size, blank, Limits}
 use Rattle.rules.specs.Walk.{Head, Partner, partner}
 use Rattle.rules.specs.Stream.{bitsOf}
 use Rattle.rules.specs.Reading.{stepTaken, stepWith, stepAt, step}
@@ -33,7 +33,7 @@ use Rattle.runs.specs.Turns.{Ready, afterStep, toldTurn, Again, Turns}
 pub ready-start : (N n : ℕ) (c : Cursor) (t page : List ℕ) → (1 ≤ N) × (N ≤ 6) → (1 ≤ n) × (n ≤ 4096) → CursorFits c page → c .waiting ≡ 0
     → Ready N n (stand 1 (replicate 7 0)) c (blank (size N n) t) page
 ready-start N n c t page hN hn f z = record {
-  inv = rw (walk-start N n t (hn .0) (hn .1) (hN .1)) (start-inv byRank N n t (hn .0) (hn .1) (hN .1));
+  inv = rw (walk-start N n t (hn .0) (hn .1) (hN .1)) (start-inv byDart N n t (hn .0) (hn .1) (hN .1));
   dims = hN .0;
   fits = f;
   begun = inl z;
@@ -73,24 +73,25 @@ module _ {N n k : ℕ} {ps : List ℕ} {c : Cursor} {t page : List ℕ} (y : Rea
 
   -- where a step goes on, its walk may be stepped with the bits from d on
   goes-again : (d : Cursor) → CursorFits d page → d .waiting ≡ 0 → (r : Stepped) (ps' t' : List ℕ)
-      → toldStep N n k r ps' t' (atHand d page) ≡ step (walkAt byRank N n (stand k ps) t) (atHand c page) → Lower r ps' → Again N n c (afterStep r d) ps' t' page
+      → toldStep N n k r ps' t' (atHand d page) ≡ step (walkAt byDart N n (stand k ps) t) (atHand c page) → Lower r ps'
+      → Again N n c (afterStep r d) ps' t' page
   unfolding toldStep Lower Again
   goes-again d f z (stepped.On rank k') ps' t' e l =
-      let w = walkAt byRank N n (stand k ps) t in
-      let w' = walkAt byRank N n (stand k' ps') t' in
+      let w = walkAt byDart N n (stand k ps) t in
+      let w' = walkAt byDart N n (stand k' ps') t' in
       let x = step-move w (atHand c page) w' (atHand d page) (sym e) in
       (record { inv = moved w w' (x .out) (y .inv) (x .move) .inv; dims = y .dims; fits = f; begun = inl z }, l)
   goes-again d f z (stepped.Refused nr) ps' t' e l = tt
 
   -- what a turn leaves, from what its step tells with the bits from d on left
   turns : (d : Cursor) → CursorFits d page → d .waiting ≡ 0 → (r : Stepped) (ps' t' : List ℕ)
-      → toldStep N n k r ps' t' (atHand d page) ≡ step (walkAt byRank N n (stand k ps) t) (atHand c page) → Lower r ps'
+      → toldStep N n k r ps' t' (atHand d page) ≡ step (walkAt byDart N n (stand k ps) t) (atHand c page) → Lower r ps'
       → Turns N n k ps c t page (afterStep r d) ps' t'
   turns d f z r ps' t' e l = record { tells = told-after N n k c d r ps' t' page ∙ e; again = goes-again d f z r ps' t' e l }
 
   -- at the head b of Lj, by what is to be done for it
   module _ {j b : ℕ} {p : Partner} (v : HeadCase N n k ps t j b p) where
-    stepping : (bs : List Bool) → step (walkAt byRank N n (stand k ps) t) bs ≡ stepWith (walkAt byRank N n (stand k ps) t) bs j b p
+    stepping : (bs : List Bool) → step (walkAt byDart N n (stand k ps) t) bs ≡ stepWith (walkAt byDart N n (stand k ps) t) bs j b p
     unfolding step stepAt
     stepping bs = rw (v .heads, v .case)
 
@@ -98,10 +99,10 @@ module _ {N n k : ℕ} {ps : List ℕ} {c : Cursor} {t page : List ℕ} (y : Rea
     still : p ≢ Partner.asked → c .waiting ≡ 0
     still ne = go (y .begun)
       where
-        go : (c .waiting ≡ 0) ⊎ Asks (walkAt byRank N n (stand k ps) t) (bitsOf (c .waiting) (c .value)) → c .waiting ≡ 0
+        go : (c .waiting ≡ 0) ⊎ Asks (walkAt byDart N n (stand k ps) t) (bitsOf (c .waiting) (c .value)) → c .waiting ≡ 0
         go (inl q) = q
         go (inr a) =
-            let w = walkAt byRank N n (stand k ps) t in
+            let w = walkAt byDart N n (stand k ps) t in
             let ej : a .rank ≡ j = at-rank (a .next) (v .heads) in
             let eb : a .dart ≡ b = at-dart (a .next) (v .heads) in
             absurd (ne (sym (v .case) ∙ (ap (λ (i : ℕ). partner w i b) (sym ej) ∙ (ap (partner w (a .rank)) (sym eb) ∙ a .needs))))
@@ -110,7 +111,7 @@ module _ {N n k : ℕ} {ps : List ℕ} {c : Cursor} {t page : List ℕ} (y : Rea
     begun : begins (bitsOf (c .waiting) (c .value)) ≡ true
     begun = go (y .begun)
       where
-        go : (c .waiting ≡ 0) ⊎ Asks (walkAt byRank N n (stand k ps) t) (bitsOf (c .waiting) (c .value)) → begins (bitsOf (c .waiting) (c .value)) ≡ true
+        go : (c .waiting ≡ 0) ⊎ Asks (walkAt byDart N n (stand k ps) t) (bitsOf (c .waiting) (c .value)) → begins (bitsOf (c .waiting) (c .value)) ≡ true
         go (inl q) = unfold bitsOf begins in rw q
         go (inr a) = a .begun
 
@@ -127,7 +128,7 @@ module _ {N n k : ℕ} {ps : List ℕ} {c : Cursor} {t page : List ℕ} (y : Rea
       turns c (y .fits) (still v deduced-asked) r ps' t' (x .tells (atHand c page) ∙ sym (stepping v (atHand c page))) (x .lower)
 
   module _ {j b : ℕ} (v : HeadCase N n k ps t j b Partner.asked) (got : Taken) (x : SymbolTaken got c page) where
-    taking : step (walkAt byRank N n (stand k ps) t) (atHand c page) ≡ stepTaken (walkAt byRank N n (stand k ps) t) (atHand c page) j b (told got page)
+    taking : step (walkAt byDart N n (stand k ps) t) (atHand c page) ≡ stepTaken (walkAt byDart N n (stand k ps) t) (atHand c page) j b (told got page)
     unfolding stepWith
     taking = stepping v (atHand c page) ∙ rw (x .tells)
 

@@ -3,7 +3,7 @@ use Prim.Native.Nat.{ℕ}
 use mathlib.Core.Path.{_≡_}
 use mathlib.Core.Bool.{Bool}
 use mathlib.Core.List.{List}
-use Rattle.rules.specs.Map.{byRank}
+use Rattle.rules.specs.Map.{byDart}
 use Rattle.rules.specs.Walk.{Walk}
 use Rattle.rules.specs.Stream.{Taken, takeSymbol}
 use Rattle.rules.specs.Reading.{Run, runAll}
@@ -26,7 +26,7 @@ signalRun (Refused nr) w bs = Run.refused nr w
 
 -- a run as the rules tell it
 abbrev pub toldRun : ℕ → ℕ → Ran → List ℕ → List ℕ → Run
-toldRun N n r t page = signalRun (r .signal) (walkAt byRank N n (r .stand) t) (atHand (r .cursor) page)
+toldRun N n r t page = signalRun (r .signal) (walkAt byDart N n (r .stand) t) (atHand (r .cursor) page)
 
 -- what a run leaves, with the positions that it leaves
 abbrev pub ranAt : Halted → List ℕ → Ran
@@ -34,8 +34,8 @@ ranAt r ps = record { stand = stand (r .count) ps; cursor = r .cursor; signal = 
 
 -- what a run leaves: no bit waits at the walk's end, and where it waits the bits left run out within a symbol, with so many to come
 pub record Runs (N n : ℕ) (s : Stand) (c : Cursor) (t page : List ℕ) (r : Ran) (t' : List ℕ) : Type 0 where
-  pub tells : toldRun N n r t' page ≡ runAll (walkAt byRank N n s t) (atHand c page)
+  pub tells : toldRun N n r t' page ≡ runAll (walkAt byDart N n s t) (atHand c page)
   pub fits : CursorFits (r .cursor) page
-  pub inv : Inv (walkAt byRank N n (r .stand) t')
+  pub inv : Inv (walkAt byDart N n (r .stand) t')
   pub clean : r .signal ≡ Ended → r .cursor .waiting ≡ 0
   pub short : (k : ℕ) → r .signal ≡ Waits k → takeSymbol (atHand (r .cursor) page) ≡ Taken.short k

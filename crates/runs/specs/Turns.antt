@@ -3,7 +3,7 @@ use Prim.Native.Nat.{ℕ, _≤_}
 use mathlib.Core.Path.{_≡_}
 use mathlib.Core.Logic.{_⊎_}
 use mathlib.Core.List.{List}
-use Rattle.rules.specs.Map.{byRank}
+use Rattle.rules.specs.Map.{byDart}
 use Rattle.rules.specs.Stream.{bitsOf, Taken, takeSymbol}
 use Rattle.rules.specs.Reading.{Run, Step, step}
 use Rattle.rules.specs.Session.{walkAt}
@@ -19,10 +19,10 @@ use Rattle.runs.specs.declared.Turned.the-variants.{On, Waits, Refused}
 
 -- a walk that may be stepped: what holds of it, the bits at hand, and bits wait only where a symbol is asked that they begin
 pub record Ready (N n : ℕ) (s : Stand) (c : Cursor) (t page : List ℕ) : Type 0 where
-  pub inv : Inv (walkAt byRank N n s t)
+  pub inv : Inv (walkAt byDart N n s t)
   pub dims : 1 ≤ N
   pub fits : CursorFits c page
-  pub begun : (c .waiting ≡ 0) ⊎ Asks (walkAt byRank N n s t) (bitsOf (c .waiting) (c .value))
+  pub begun : (c .waiting ≡ 0) ⊎ Asks (walkAt byDart N n s t) (bitsOf (c .waiting) (c .value))
 
 -- the turn of a step that was made with the bits from c on left
 abbrev pub afterStep : Stepped → Cursor → Turned
@@ -31,9 +31,9 @@ afterStep (stepped.Refused nr) c = Refused nr
 
 -- what a turn came to with k darts numbered and the cursor c, as the rules tell it, by the positions and tables after it
 unfoldable pub toldTurn : ℕ → ℕ → ℕ → Cursor → Turned → List ℕ → List ℕ → List ℕ → Step
-toldTurn N n k c (On rank k' d) ps t page = Step.goes (walkAt byRank N n (stand k' ps) t) (atHand d page)
-toldTurn N n k c (Waits m) ps t page = Step.stops (Run.waits (walkAt byRank N n (stand k ps) t) (atHand c page))
-toldTurn N n k c (Refused nr) ps t page = Step.stops (Run.refused nr (walkAt byRank N n (stand k ps) t))
+toldTurn N n k c (On rank k' d) ps t page = Step.goes (walkAt byDart N n (stand k' ps) t) (atHand d page)
+toldTurn N n k c (Waits m) ps t page = Step.stops (Run.waits (walkAt byDart N n (stand k ps) t) (atHand c page))
+toldTurn N n k c (Refused nr) ps t page = Step.stops (Run.refused nr (walkAt byDart N n (stand k ps) t))
 
 -- where a turn goes on, its walk may be stepped, and the queues below the rank are empty; where it waits the bits from c on run out within a symbol
 unfoldable pub Again : ℕ → ℕ → Cursor → Turned → List ℕ → List ℕ → List ℕ → Type 0
@@ -43,5 +43,5 @@ Again N n c (Refused nr) ps t page = Unit
 
 -- what a turn leaves
 pub record Turns (N n k : ℕ) (ps : List ℕ) (c : Cursor) (t page : List ℕ) (r : Turned) (ps' t' : List ℕ) : Type 0 where
-  pub tells : toldTurn N n k c r ps' t' page ≡ step (walkAt byRank N n (stand k ps) t) (atHand c page)
+  pub tells : toldTurn N n k c r ps' t' page ≡ step (walkAt byDart N n (stand k ps) t) (atHand c page)
   pub again : Again N n c r ps' t' page

@@ -5,7 +5,7 @@ use mathlib.Core.Logic.{_≢_}
 use mathlib.Core.List.{List}
 use native.Mathlib.Omega.{arith}
 use borrow.Author.Tests.{eq-eqb, ne-eqb}
-use Rattle.rules.specs.Map.{byRank, mark, link}
+use Rattle.rules.specs.Map.{byDart, mark, link}
 use Rattle.rules.specs.Walk.{Walk, linkOf, unknown, Partner, deduce, partner}
 use Rattle.steps.specs.Partners.{looking, deducedFor, partnerFor}
 
@@ -22,7 +22,7 @@ partner-looking w j b = rw (deduce-looking w j b (j - 1) 0)
 -- what is left of the search from rank i on
 pub record Deducing (N n : ℕ) (t : List ℕ) (j b i : ℕ) : Type 0 where
   pub upTo : i ≤ j
-  pub left : deducedFor N n t j b ≡ deduce (looking byRank N n t) j b (j - 1 - i) i
+  pub left : deducedFor N n t j b ≡ deduce (looking byDart N n t) j b (j - 1 - i) i
 
 pub deducing-start : (N n : ℕ) (t : List ℕ) (j b : ℕ) → Deducing N n t j b 0
 deducing-start N n t j b = let e : j - 1 - 0 ≡ j - 1 = omega arith in record { upTo = omega arith; left = rw e }
@@ -32,8 +32,8 @@ module _ {N n : ℕ} {t : List ℕ} {j b i : ℕ} (d : Deducing N n t j b i) whe
   unfolding deduce
   deducing-end h = let e : j - 1 - i ≡ 0 = omega arith in rw (d .left, e)
 
-  module _ (h : i + 1 < j) {c : ℕ} (ec : c ≡ link byRank N n t i b) {f : ℕ} (ef : f ≡ link byRank N n t j c) where
-    pub deducing-here : f ≢ mark → {e : ℕ} → e ≡ link byRank N n t i f → Partner.deduced e ≡ deducedFor N n t j b
+  module _ (h : i + 1 < j) {c : ℕ} (ec : c ≡ link byDart N n t i b) {f : ℕ} (ef : f ≡ link byDart N n t j c) where
+    pub deducing-here : f ≢ mark → {e : ℕ} → e ≡ link byDart N n t i f → Partner.deduced e ≡ deducedFor N n t j b
     unfolding deduce unknown linkOf
     deducing-here q ee =
         let k : j - 1 - i ≡ suc (j - 1 - suc i) = omega arith in
@@ -44,11 +44,12 @@ module _ {N n : ℕ} {t : List ℕ} {j b i : ℕ} (d : Deducing N n t j b i) whe
     deducing-next q =
         let k : j - 1 - i ≡ suc (j - 1 - suc i) = omega arith in
         let s : i + 1 ≡ suc i = omega arith in
-        let r : deduce (looking byRank N n t) j b (j - 1 - i) i ≡ deduce (looking byRank N n t) j b (j - 1 - suc i) (suc i) = rw (k, ← ec, ← ef, eq-eqb f mark q) in
+        let r : deduce (looking byDart N n t) j b (j - 1 - i) i
+        ≡ deduce (looking byDart N n t) j b (j - 1 - suc i) (suc i) = rw (k, ← ec, ← ef, eq-eqb f mark q) in
         record { upTo = omega arith; left = rw s (d .left ∙ r) }
 
 -- the answer, one way through the code at a time
-module _ (N n : ℕ) (t : List ℕ) (j b x : ℕ) (ex : x ≡ link byRank N n t j b) where
+module _ (N n : ℕ) (t : List ℕ) (j b x : ℕ) (ex : x ≡ link byDart N n t j b) where
   pub partner-known : x ≢ mark → Partner.known ≡ partnerFor N n t j b
   unfolding partner unknown linkOf
   partner-known q = rw (← ex, ne-eqb x mark q)

@@ -9,7 +9,7 @@ use native.Mathlib.Omega.{arith}
 use lib.ListN.{length, getD, set, replicate}
 use lib.Dec.{ltb}
 use borrow.Author.Tests.{eq-eqb, ne-eqb, not-true}
-use Rattle.rules.specs.Map.{byRank, mark, size, place, link, blank, Limits}
+use Rattle.rules.specs.Map.{byDart, mark, size, place, link, blank, Limits}
 use Rattle.rules.specs.Walk.{Walk, start, linkOf, unknown, Partner, partner, pass, join, fresh, tie, Symbol, apply}
 use Rattle.rules.specs.Naming.{naming, namingNumber}
 use Rattle.rules.specs.Refusals.{ofIndex}
@@ -32,12 +32,12 @@ use Rattle.steps.specs.Steps.{stand, namingFor, Tied, HeadCase, deducedS
 use Rattle.steps.proofs.Partners.{partner-looking}
 
 -- a link's place is within the tables
-pub place-room : (N n : ℕ) (t : List ℕ) (j b : ℕ) → Limits N n t → j ≤ N → b < n → (p : ℕ) → p ≡ place byRank N n j b → p < length t
-place-room N n t j b l hj hb p e = omega (arith, place-below byRank N n j b hj hb, l .room)
+pub place-room : (N n : ℕ) (t : List ℕ) (j b : ℕ) → Limits N n t → j ≤ N → b < n → (p : ℕ) → p ≡ place byDart N n j b → p < length t
+place-room N n t j b l hj hb p e = omega (arith, place-below byDart N n j b hj hb, l .room)
 
 -- the walk of a stand and tables
-pub stands : (N n : ℕ) (s : Stand) (t : List ℕ) (w : Walk) → Shape w → w .layout ≡ byRank → w .dim ≡ N → w .darts ≡ n → w .count ≡ s .count
-    → w .positions ≡ s .positions → w .links ≡ t → walkAt byRank N n s t ≡ w
+pub stands : (N n : ℕ) (s : Stand) (t : List ℕ) (w : Walk) → Shape w → w .layout ≡ byDart → w .dim ≡ N → w .darts ≡ n → w .count ≡ s .count
+    → w .positions ≡ s .positions → w .links ≡ t → walkAt byDart N n s t ≡ w
 unfolding walkAt
 stands N n s t w h ey ed en ec ep et =
     λ i. record { layout = sym ey i; dim = sym ed i; darts = sym en i; queues = q i; links = sym et i; count = sym ec i; positions = sym ep i }
@@ -46,19 +46,19 @@ stands N n s t w h ey ed en ec ep et =
     q = sym (queues-of w h ∙ rw (ed, ec, ep))
 
 -- the walk of the start
-pub walk-start : (N n : ℕ) (t : List ℕ) → 1 ≤ n → n ≤ 4096 → N ≤ 6 → walkAt byRank N n (stand 1 (replicate 7 0)) (blank (size N n) t) ≡ start byRank N n t
+pub walk-start : (N n : ℕ) (t : List ℕ) → 1 ≤ n → n ≤ 4096 → N ≤ 6 → walkAt byDart N n (stand 1 (replicate 7 0)) (blank (size N n) t) ≡ start byDart N n t
 unfolding start
 walk-start N n t h1 h2 h3 =
-    stands N n (stand 1 (replicate 7 0)) (blank (size N n) t) (start byRank N n t) (start-inv byRank N n t h1 h2 h3 .shape) refl refl refl refl refl refl
+    stands N n (stand 1 (replicate 7 0)) (blank (size N n) t) (start byDart N n t) (start-inv byDart N n t h1 h2 h3 .shape) refl refl refl refl refl refl
 
 -- what is to be done for aj(b), by the tables alone
 pub partner-stand : (N n : ℕ) (s : Stand) (t : List ℕ) (j b : ℕ) (p : Case) → toldPartner p ≡ partnerFor N n t j b
-    → partner (walkAt byRank N n s t) j b ≡ toldPartner p
+    → partner (walkAt byDart N n s t) j b ≡ toldPartner p
 unfolding walkAt
-partner-stand N n s t j b p e = partner-looking (walkAt byRank N n s t) j b ∙ sym e
+partner-stand N n s t j b p e = partner-looking (walkAt byDart N n s t) j b ∙ sym e
 
 -- a walk within the limits, and its lowest queue that isn't empty: its head is served
-module _ (N n k : ℕ) (ps t : List ℕ) (dims : 1 ≤ N) (v : Inv (walkAt byRank N n (stand k ps) t)) where
+module _ (N n k : ℕ) (ps t : List ℕ) (dims : 1 ≤ N) (v : Inv (walkAt byDart N n (stand k ps) t)) where
   pub stand-limits : Limits N n t
   unfolding walkAt
   stand-limits =
@@ -69,12 +69,12 @@ module _ (N n k : ℕ) (ps t : List ℕ) (dims : 1 ≤ N) (v : Inv (walkAt byRan
   unfolding walkAt
   stand-seven = v .shape .seven
 
-  pub serves : (j : ℕ) → Lowest N k ps j → (p : Partner) → partner (walkAt byRank N n (stand k ps) t) j (getD ps j 0) ≡ p
+  pub serves : (j : ℕ) → Lowest N k ps j → (p : Partner) → partner (walkAt byDart N n (stand k ps) t) j (getD ps j 0) ≡ p
       → HeadCase N n k ps t j (getD ps j 0) p
   unfolding walkAt
   serves j low p e = record {
     inv = v;
-    heads = head-lowest (walkAt byRank N n (stand k ps) t) (v .shape) j (low .lower) (low .ranked) (low .some);
+    heads = head-lowest (walkAt byDart N n (stand k ps) t) (v .shape) j (low .lower) (low .ranked) (low .some);
     case = e;
     limits = stand-limits;
     seven = v .shape .seven;
@@ -86,11 +86,11 @@ module _ (N n k : ℕ) (ps t : List ℕ) (dims : 1 ≤ N) (v : Inv (walkAt byRan
   }
 
 -- a move's walk is that of the stand and tables after it
-lands : (N n : ℕ) (s s' : Stand) (t t' : List ℕ) (out : List Symbol) (w' : Walk) → Inv (walkAt byRank N n s t) → Move (walkAt byRank N n s t) out w'
-    → w' .count ≡ s' .count → w' .positions ≡ s' .positions → w' .links ≡ t' → walkAt byRank N n s' t' ≡ w'
+lands : (N n : ℕ) (s s' : Stand) (t t' : List ℕ) (out : List Symbol) (w' : Walk) → Inv (walkAt byDart N n s t) → Move (walkAt byDart N n s t) out w'
+    → w' .count ≡ s' .count → w' .positions ≡ s' .positions → w' .links ≡ t' → walkAt byDart N n s' t' ≡ w'
 unfolding walkAt
 lands N n s s' t t' out w' v m ec ep et =
-    let x = moved (walkAt byRank N n s t) w' out v m in
+    let x = moved (walkAt byDart N n s t) w' out v m in
     stands N n s' t' w' (x .inv .shape) (x .grows .layout) (x .grows .dim) (x .grows .darts) ec ep et
 
 -- the rules' step where aj(b) is known
@@ -101,23 +101,23 @@ knownStep j b w rest = Step.goes (pass w j b) rest
 module _ {N n k : ℕ} {ps t : List ℕ} {j b : ℕ} {p : Partner} (v : HeadCase N n k ps t j b p) where
   -- the walk before
   abbrev here : Walk
-  here = walkAt byRank N n (stand k ps) t
+  here = walkAt byDart N n (stand k ps) t
 
   left : set ps j (suc (getD ps j 0)) ≡ set ps j (b + 1)
   left = rw (v .first, add-one)
 
-  walk-passed : Move here [] (pass here j b) → (ps' : List ℕ) → ps' ≡ set ps j (b + 1) → walkAt byRank N n (stand k ps') t ≡ pass here j b
+  walk-passed : Move here [] (pass here j b) → (ps' : List ℕ) → ps' ≡ set ps j (b + 1) → walkAt byDart N n (stand k ps') t ≡ pass here j b
   unfolding pass walkAt
   walk-passed m ps' e = lands N n (stand k ps) (stand k ps') t t [] (pass here j b) (v .inv) m refl (left ∙ sym e) refl
 
   walk-tied : (out : List Symbol) (e : ℕ) → Move here out (tie here j b e) → (ps' t' : List ℕ) → Tied N n ps t j b e ps' t'
-      → walkAt byRank N n (stand k ps') t' ≡ tie here j b e
+      → walkAt byDart N n (stand k ps') t' ≡ tie here j b e
   unfolding tie pass join walkAt
   walk-tied out e m ps' t' x =
       lands N n (stand k ps) (stand k ps') t t' out (tie here j b e) (v .inv) m refl (left ∙ sym (x .positions)) (sym (x .tables))
 
   walk-new : (out : List Symbol) → Move here out (apply here j b Symbol.new) → (ps' t' : List ℕ) → Tied N n ps t j b k ps' t'
-      → walkAt byRank N n (stand (k + 1) ps') t' ≡ apply here j b Symbol.new
+      → walkAt byDart N n (stand (k + 1) ps') t' ≡ apply here j b Symbol.new
   unfolding apply tie pass join fresh walkAt
   walk-new out m ps' t' x =
       lands N n (stand k ps) (stand (k + 1) ps') t t' out (apply here j b Symbol.new) (v .inv) m (omega arith) (left ∙ sym (x .positions)) (sym (x .tables))
@@ -128,7 +128,7 @@ module _ {N n k : ℕ} {ps t : List ℕ} {j b : ℕ} {p : Partner} (v : HeadCase
 
   -- what a step leaves that goes on, and one that is refused
   goes : (f : Walk → List Bool → Step) (w' : Walk) → ((rest : List Bool) → f here rest ≡ Step.goes w' rest)
-      → (rank k' : ℕ) (ps' t' : List ℕ) → walkAt byRank N n (stand k' ps') t' ≡ w' → Emptied k' ps' rank → Steps N n k ps t f (On rank k') ps' t'
+      → (rank k' : ℕ) (ps' t' : List ℕ) → walkAt byDart N n (stand k' ps') t' ≡ w' → Emptied k' ps' rank → Steps N n k ps t f (On rank k') ps' t'
   unfolding toldStep Lower
   goes f w' g rank k' ps' t' e l = record { tells = λ rest. rw e (sym (g rest)); lower = l }
 
@@ -147,23 +147,23 @@ module _ {N n k : ℕ} {ps t : List ℕ} {j b e : ℕ} (v : HeadCase N n k ps t 
       let l = deduced-below (here v) (v .inv) (d .i) j b (next-of (here v) (v .inv) (v .heads)) (d .gap) (d .known) in
       omega (arith, d .value, l, v .inv .shape .within)
 
-  module _ (x : ℕ) (ex : x ≡ link byRank N n t j e) where
+  module _ (x : ℕ) (ex : x ≡ link byDart N n t j e) where
     pub deduced-tied : x ≡ mark → (ps' t' : List ℕ) → Tied N n ps t j b e ps' t' → Steps N n k ps t (deducedStep j b e) (On j k) ps' t'
     unfolding allow
     deduced-tied q ps' t' z =
-        let u : unknown (here v) j e ≡ true = unfold unknown linkOf walkAt in eq-eqb (link byRank N n t j e) mark (sym ex ∙ q) in
+        let u : unknown (here v) j e ≡ true = unfold unknown linkOf walkAt in eq-eqb (link byDart N n t j e) mark (sym ex ∙ q) in
         goes v (deducedStep j b e) (tie (here v) j b e) (λ rest. rw u) j k ps' t'
         (walk-tied v [] e (Move.deduces j b e (v .heads) (v .case) u) ps' t' z) (still-empty v ps' (z .positions))
 
     pub deduced-14 : x ≢ mark → Steps N n k ps t (deducedStep j b e) (Refused 14) ps t
     unfolding toldStep Lower allow
     deduced-14 q =
-        let u : unknown (here v) j e ≡ false = unfold unknown linkOf walkAt in ne-eqb (link byRank N n t j e) mark (λ z. q (ex ∙ z)) in
+        let u : unknown (here v) j e ≡ false = unfold unknown linkOf walkAt in ne-eqb (link byDart N n t j e) mark (λ z. q (ex ∙ z)) in
         record { tells = λ rest. rw u; lower = tt }
 
 -- the step by a symbol, one way through the code at a time
 module _ {N n k : ℕ} {ps t : List ℕ} {j b : ℕ} (v : HeadCase N n k ps t j b Partner.asked) where
-  on : (x : Symbol) → permitted (here v) j b x ≡ true → (rank k' : ℕ) (ps' t' : List ℕ) → walkAt byRank N n (stand k' ps') t' ≡ apply (here v) j b x
+  on : (x : Symbol) → permitted (here v) j b x ≡ true → (rank k' : ℕ) (ps' t' : List ℕ) → walkAt byDart N n (stand k' ps') t' ≡ apply (here v) j b x
       → Emptied k' ps' rank
       → Steps N n k ps t (symbolStep j b x) (On rank k') ps' t'
   unfolding allow

@@ -1,7 +1,7 @@
 -- What a step does for aj(b), by the tables alone: the code's answer in the rules' words.
 use Prim.Native.Nat.{ℕ, _-_}
 use mathlib.Core.List.{List, []}
-use Rattle.rules.specs.Map.{Layout, byRank}
+use Rattle.rules.specs.Map.{Layout, byDart}
 use Rattle.rules.specs.Walk.{Walk}
 use Rattle.rules.specs.Walk as walk
 use Rattle.steps.specs.declared.Case.{Case}
@@ -13,11 +13,11 @@ looking Y N n t = record { layout = Y; dim = N; darts = n; queues = []; links = 
 
 -- what is to be done for aj(b) where it is not known
 abbrev pub deducedFor : ℕ → ℕ → List ℕ → ℕ → ℕ → walk.Partner
-deducedFor N n t j b = walk.deduce (looking byRank N n t) j b (j - 1) 0
+deducedFor N n t j b = walk.deduce (looking byDart N n t) j b (j - 1) 0
 
 -- what is to be done for aj(b)
 abbrev pub partnerFor : ℕ → ℕ → List ℕ → ℕ → ℕ → walk.Partner
-partnerFor N n t j b = walk.partner (looking byRank N n t) j b
+partnerFor N n t j b = walk.partner (looking byDart N n t) j b
 
 -- the code's answer in the rules' words
 abbrev pub toldPartner : Case → walk.Partner

@@ -4,7 +4,7 @@ use mathlib.Core.Path.{_≡_}
 use mathlib.Core.Bool.{Bool}
 use mathlib.Core.List.{List, []}
 use lib.ListN.{length, getD, set}
-use Rattle.rules.specs.Map.{byRank, Limits, place}
+use Rattle.rules.specs.Map.{byDart, Limits, place}
 use Rattle.rules.specs.Walk.{Walk, Head, head, unknown, Partner, partner, tie, Symbol, apply}
 use Rattle.rules.specs.Naming.{naming}
 use Rattle.rules.specs.Reading.{Run, Step, permitted, fault, allow}
@@ -21,11 +21,11 @@ stand k ps = record { count = k; positions = ps }
 
 -- aj(b) = e and its reverse, in the tables
 abbrev pub tablesJoined : ℕ → ℕ → List ℕ → ℕ → ℕ → ℕ → List ℕ
-tablesJoined N n t j b e = set (set t (place byRank N n j b) e) (place byRank N n j e) b
+tablesJoined N n t j b e = set (set t (place byDart N n j b) e) (place byDart N n j e) b
 
 -- what a w says of the dart e: of the walk only the count and the tables are asked
 abbrev pub namingFor : ℕ → ℕ → List ℕ → ℕ → ℕ → ℕ → ℕ → Naming
-namingFor N n t count j b e = naming (walkAt byRank N n (stand count []) t) j b e
+namingFor N n t count j b e = naming (walkAt byDart N n (stand count []) t) j b e
 
 -- aj(b) = e was made known, and b has left Lj
 pub record Tied (N n : ℕ) (ps t : List ℕ) (j b e : ℕ) (ps' t' : List ℕ) : Type 0 where
@@ -34,9 +34,9 @@ pub record Tied (N n : ℕ) (ps t : List ℕ) (j b e : ℕ) (ps' t' : List ℕ) 
 
 -- b is at the head of Lj, and p is to be done for it
 pub record HeadCase (N n k : ℕ) (ps t : List ℕ) (j b : ℕ) (p : Partner) : Type 0 where
-  pub inv : Inv (walkAt byRank N n (stand k ps) t)
-  pub heads : head (walkAt byRank N n (stand k ps) t) ≡ Head.at j b
-  pub case : partner (walkAt byRank N n (stand k ps) t) j b ≡ p
+  pub inv : Inv (walkAt byDart N n (stand k ps) t)
+  pub heads : head (walkAt byDart N n (stand k ps) t) ≡ Head.at j b
+  pub case : partner (walkAt byDart N n (stand k ps) t) j b ≡ p
   pub limits : Limits N n t
   pub seven : length ps ≡ 7
   pub emptied : Emptied k ps j
@@ -55,8 +55,8 @@ symbolStep j b x w rest = allow (permitted w j b x) (fault w j b x) w (apply w j
 
 -- what a step came to with k darts numbered, as the rules tell it, by the positions and tables after it
 unfoldable pub toldStep : ℕ → ℕ → ℕ → Stepped → List ℕ → List ℕ → List Bool → Step
-toldStep N n k (On rank k') ps t rest = Step.goes (walkAt byRank N n (stand k' ps) t) rest
-toldStep N n k (Refused nr) ps t rest = Step.stops (Run.refused nr (walkAt byRank N n (stand k ps) t))
+toldStep N n k (On rank k') ps t rest = Step.goes (walkAt byDart N n (stand k' ps) t) rest
+toldStep N n k (Refused nr) ps t rest = Step.stops (Run.refused nr (walkAt byDart N n (stand k ps) t))
 
 -- the queues below the rank where a step goes on are empty
 unfoldable pub Lower : Stepped → List ℕ → Type 0
@@ -65,5 +65,5 @@ Lower (Refused nr) ps = Unit
 
 -- the rules' step f was made, whatever bits are left
 pub record Steps (N n k : ℕ) (ps t : List ℕ) (f : Walk → List Bool → Step) (r : Stepped) (ps' t' : List ℕ) : Type 0 where
-  pub tells : (rest : List Bool) → toldStep N n k r ps' t' rest ≡ f (walkAt byRank N n (stand k ps) t) rest
+  pub tells : (rest : List Bool) → toldStep N n k r ps' t' rest ≡ f (walkAt byDart N n (stand k ps) t) rest
   pub lower : Lower r ps'

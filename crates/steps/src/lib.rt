@@ -8,7 +8,7 @@ ghost use mathlib.Core.Path.{_≡_};
 ghost use Prim.Native.Nat.{_+_, _≤_, _<_};
 ghost use lib.ListN.{length, set};
 ghost use lib.Dec.{ltb};
-ghost use Rattle.rules.specs.Map.{byRank, Limits, link};
+ghost use Rattle.rules.specs.Map.{byDart, Limits, link};
 ghost use Rattle.rules.specs.Walk as walk;
 ghost use Rattle.rules.specs.Walk.{Partner};
 ghost use Rattle.rules.specs.Symbols.{toldSymbol};
@@ -32,7 +32,7 @@ pub enum Stepped {
 // What is known of ai(b), or the mark.
 pub fn known_link(tables: &[u16], dim: usize, darts: usize, rank: usize, b: WalkNo) -> WalkNo
     requires { ⌜ Limits dim darts (now tables) × (rank ≤ dim) ⌝ }
-    ensures { λ r. ⌜ r .0 ≡ link byRank dim darts (now (tables .entry)) rank (b .0) ⌝ }
+    ensures { λ r. ⌜ r .0 ≡ link byDart dim darts (now (tables .entry)) rank (b .0) ⌝ }
 {
     WalkNo(tables::link(tables, dim, darts, rank, b.0))
 }

@@ -12,7 +12,7 @@ use lib.ListN.{length, getD}
 use lib.Seq.{take-at, drop-at, getD-drop}
 use lib.Dec.{eqb}
 use borrow.Author.Tests.{lt-ltb, eqb-true, leb-true}
-use Rattle.rules.specs.Map.{byRank}
+use Rattle.rules.specs.Map.{byDart}
 use Rattle.rules.specs.declared.Session.{Session}
 use Rattle.rules.specs.declared.State.{State}
 use Rattle.rules.specs.declared.State.the-variants.{Header, Running, Complete, Closed, Refused}
@@ -137,7 +137,7 @@ held-narrow st w bs v h =
     at i (yes l) = omega (arith, gone-le-count w v i l, v .small, v .within)
     at i (no l) = omega (arith, v .past i (omega arith))
 
-store-narrow : {r : Reading} → Fits byRank r → Narrow (store r)
+store-narrow : {r : Reading} → Fits byDart r → Narrow (store r)
 unfolding store
 store-narrow (Fits.header {bs} h) = idle-narrow Header bs (few h)
   where
@@ -148,6 +148,6 @@ store-narrow (Fits.running {w} {bs} v h a) = held-narrow Running w bs (v .shape)
 store-narrow (Fits.complete {w} v h o c) = held-narrow Complete w [] (v .shape) (omega arith)
 store-narrow (Fits.refused {nr} {p} h) = idle-narrow (Refused nr p) [] (omega arith)
 
-pub record-narrow : (bytes t : List ℕ) → Narrow (recordFor byRank bytes t)
+pub record-narrow : (bytes t : List ℕ) → Narrow (recordFor byDart bytes t)
 unfolding recordFor
-record-narrow bytes t = store-narrow (reading-fits byRank bytes t)
+record-narrow bytes t = store-narrow (reading-fits byDart bytes t)

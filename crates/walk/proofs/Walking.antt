@@ -9,7 +9,7 @@ use lib.ListN.{length, getD}
 use lib.Dec.{eqb}
 use borrow.Author.Tests.{eqb-true, ne-eqb}
 use Rattle.rules.specs.Lists.{number, sum}
-use Rattle.rules.specs.Map.{byRank, link, Valid}
+use Rattle.rules.specs.Map.{byDart, link, Valid}
 use Rattle.rules.specs.Walk.{Walk, start, Head, head, linkOf, Partner, partner, pass, join, fresh, tie, steps, Symbol, apply, enough}
 use Rattle.rules.specs.Walk.{Written, symbolOf, named, writeSymbol, writeWith, writeAt, writeStep, Walked, prepend, writeOn, write, walked, namesOf}
 use Rattle.rules.specs.Inner.{Inv, Emptied, Lowest}
@@ -87,14 +87,14 @@ pub record Rooted (N n : ℕ) (m : List ℕ) (root : ℕ) : Type 0 where
   pub ranks : N ≤ 6
   pub small : n ≤ 4096
   pub dart : root < n
-  pub valid : Valid byRank N n m
+  pub valid : Valid byDart N n m
 
 -- where a walk from the root stands, by the count and the positions
 pub record Walking (N n : ℕ) (m : List ℕ) (root c : ℕ) (ps : List ℕ) : Type 0 where
   pub done : ℕ
   pub walk : Walk
   pub names : List ℕ
-  pub after : After byRank N n m root done walk names
+  pub after : After byDart N n m root done walk names
   pub count : c ≡ walk .count
   pub positions : ps ≡ walk .positions
 
@@ -121,11 +121,11 @@ ahead-next N n m k w w' names names' out l e =
     ap (λ (x : ℕ). write x m w names) f ∙ write-next (enough N n - suc k) m w w' names names' out e
 
 module _ {N n : ℕ} {m : List ℕ} {root : ℕ} (P : Rooted N n m root) where
-  keeps : {k : ℕ} {w : Walk} {names : List ℕ} → After byRank N n m root k w names → Kept byRank N n m root k w names
-  keeps a = after-kept byRank N n m root (P .ranks) (P .small) (P .dart) (P .valid) a
+  keeps : {k : ℕ} {w : Walk} {names : List ℕ} → After byDart N n m root k w names → Kept byDart N n m root k w names
+  keeps a = after-kept byDart N n m root (P .ranks) (P .small) (P .dart) (P .valid) a
 
   -- fewer steps are done than would be enough
-  after-less : {k : ℕ} {w : Walk} {names : List ℕ} → After byRank N n m root k w names → k < enough N n
+  after-less : {k : ℕ} {w : Walk} {names : List ℕ} → After byDart N n m root k w names → k < enough N n
   unfolding enough steps
   after-less {k} {w} {names} a =
       let K = keeps a in
@@ -134,7 +134,7 @@ module _ {N n : ℕ} {m : List ℕ} {root : ℕ} (P : Rooted N n m root) where
       omega arith
 
   -- the names at the end are those of the whole walk
-  after-names : {k : ℕ} {w : Walk} {names : List ℕ} → After byRank N n m root k w names → write (enough N n - k) m w names .names ≡ namesOf byRank N n m root
+  after-names : {k : ℕ} {w : Walk} {names : List ℕ} → After byDart N n m root k w names → write (enough N n - k) m w names .names ≡ namesOf byDart N n m root
   unfolding namesOf walked prepend
   after-names After.begin = let z : enough N n - 0 ≡ enough N n = omega arith in rw z
   after-names (After.next {k} {w} {w'} {names} {names'} {out} a e) =
@@ -143,14 +143,14 @@ module _ {N n : ℕ} {m : List ℕ} {root : ℕ} (P : Rooted N n m root) where
   -- the start: all is still to do
   unfoldable pub walking-starts : Walking N n m root 1 (0 ∷ 0 ∷ 0 ∷ 0 ∷ 0 ∷ 0 ∷ 0 ∷ [])
   unfolding start
-  walking-starts = record { done = 0; walk = start byRank N n []; names = root ∷ []; after = After.begin; count = refl; positions = refl }
+  walking-starts = record { done = 0; walk = start byDart N n []; names = root ∷ []; after = After.begin; count = refl; positions = refl }
 
-  pub starts-ahead : ahead walking-starts ≡ walked byRank N n m root
+  pub starts-ahead : ahead walking-starts ≡ walked byDart N n m root
   unfolding ahead walking-starts walked
   starts-ahead = let z : enough N n - 0 ≡ enough N n = omega arith in rw z
 
   module _ {c : ℕ} {ps : List ℕ} (G : Walking N n m root c ps) where
-    pub kept : Kept byRank N n m root (G .done) (G .walk) (G .names)
+    pub kept : Kept byDart N n m root (G .done) (G .walk) (G .names)
     kept = keeps (G .after)
 
     pub names-le : length (G .names) ≤ n
@@ -162,7 +162,7 @@ module _ {N n : ℕ} {m : List ℕ} {root : ℕ} (P : Rooted N n m root) where
     pub name-low : (b : ℕ) → b < length (G .names) → name (G .names) b < n
     name-low b h = rw (kept .darts) at (kept .named .low b (omega (arith, kept .named .len)))
 
-    pub ends-named : ahead G .names ≡ namesOf byRank N n m root
+    pub ends-named : ahead G .names ≡ namesOf byDart N n m root
     unfolding ahead
     ends-named = after-names (G .after)
 
@@ -178,7 +178,7 @@ module _ {N n : ℕ} {m : List ℕ} {root : ℕ} (P : Rooted N n m root) where
     module _ (j : ℕ) (e : Lowest N c ps j) where
       -- the partner of the head, by its name
       unfoldable pub partner-named : ℕ
-      partner-named = link byRank N n m j (name (G .names) (getD ps j 0))
+      partner-named = link byDart N n m j (name (G .names) (getD ps j 0))
 
       pub walking-head : head (G .walk) ≡ Head.at j (getD ps j 0)
       walking-head =

@@ -5,7 +5,7 @@ use mathlib.Core.Path.{_≡_, ap, sym, _∙_}
 use mathlib.Core.List.{List, [], _∷_, _++_, append-nil}
 use native.Mathlib.Omega.{arith}
 use lib.ListN.{length, getD, length-append}
-use Rattle.rules.specs.Map.{byRank}
+use Rattle.rules.specs.Map.{byDart}
 use Rattle.rules.specs.declared.Symbol as rules
 use Rattle.rules.specs.declared.Symbol.the-variants.{New, Border, Index}
 use Rattle.rules.specs.Symbols.{toldSymbol}
@@ -40,7 +40,7 @@ pub one-fits : {s : Yield} (x : rules.Symbol) → s ≡ One x → YieldFits s �
 one-fits x e h = rw e at h
 
 -- a number that is written fits its code
-pub yield-fits : (N n : ℕ) (t work : List ℕ) (c j p : ℕ) → c ≤ 4096 → (s : Yield) → s ≡ writesIn byRank N n t work c j p → YieldFits s
+pub yield-fits : (N n : ℕ) (t work : List ℕ) (c j p : ℕ) → c ≤ 4096 → (s : Yield) → s ≡ writesIn byDart N n t work c j p → YieldFits s
 yield-fits N n t work c j p h Nothing e = tt
 yield-fits N n t work c j p h (One New) e = tt
 yield-fits N n t work c j p h (One Border) e = tt
@@ -62,20 +62,21 @@ module _ {N n : ℕ} {m : List ℕ} {root : ℕ} (P : Rooted N n m root) {work :
     -- the pen has room for the next code
     pub writing-fits : PenFits 401422 pen → PenFits 14 r
     writing-fits h =
-        let e : length (codes (W .symbols)) + length (codes (ahead (W .replaying .walking) .symbols)) ≡ length (codes (symbolsOf byRank N n m root)) =
+        let e : length (codes (W .symbols)) + length (codes (ahead (W .replaying .walking) .symbols)) ≡ length (codes (symbolsOf byDart N n m root)) =
         sym (length-append (codes (W .symbols)) _) ∙ ap length (sym (codes-append (W .symbols) _) ∙ ap codes (W .replaying .left)) in
-        let l : length (codes (W .symbols)) + 14 ≤ 401422 = omega (arith, symbols-few byRank N n m root (P .ranks) (P .small) (P .dart) (P .valid)) in
+        let l : length (codes (W .symbols)) + 14 ≤ 401422 = omega (arith, symbols-few byDart N n m root (P .ranks) (P .small) (P .dart) (P .valid)) in
         W .put .fits 14 (record { room = omega (arith, h .room); inByte = h .inByte; holds = h .holds })
 
     -- the end, where all queues are empty: all symbols were put
-    pub writing-ends : (j : ℕ) → Emptied c ps j → N < j → Put (codes (symbolsOf byRank N n m root)) start pen r out o
+    pub writing-ends : (j : ℕ) → Emptied c ps j → N < j → Put (codes (symbolsOf byDart N n m root)) start pen r out o
     writing-ends j E h = rw (← replay-ends P Q (W .replaying) j E h) (W .put)
 
     -- a turn at the lowest queue that isn't empty, over what its calls answered
-    pub writing-goes : (j : ℕ) → Lowest N c ps j → (k : Replayed) → k ≡ replayedIn byRank N n m work c j (getD ps j 0) → {ps' : List ℕ} → ps' ≡ positionsAfter j ps
+    pub writing-goes : (j : ℕ) → Lowest N c ps j → (k : Replayed) → k ≡ replayedIn byDart N n m work c j (getD ps j 0) → {ps' : List ℕ}
+        → ps' ≡ positionsAfter j ps
         → {q : Pen} {o' : List ℕ} → Put (codes (told (k .written))) start r q o o' → Writing N n m root (k .count) ps' start pen q out o'
     writing-goes j e k ek ep u =
-        let s = writesIn byRank N n m work c j (getD ps j 0) in
+        let s = writesIn byDart N n m work c j (getD ps j 0) in
         let x = rw ek at u in
         let put' = rw (← codes-append (W .symbols) (told s)) at (put-both (W .put) x) in
         rw (ek, ep) (record { symbols = W .symbols ++ told s; replaying = replay-goes P Q (W .replaying) j e; put = put' })

@@ -6,7 +6,7 @@ use rules::WriteAnswer;
 ghost use mathlib.Core.Path.{_≡_};
 ghost use Prim.Native.Nat.{ℕ, _*_, _≤_};
 ghost use lib.ListN.{length};
-ghost use Rattle.rules.specs.Map.{byRank, Limits, Valid};
+ghost use Rattle.rules.specs.Map.{byDart, Limits, Valid};
 ghost use Rattle.rules.specs.Walk.{symbolsOf};
 ghost use Rattle.rules.specs.Stream.{codes, filled};
 ghost use Rattle.rules.specs.Writing.{writeAnswer, writeOut, writeWork, stream};
@@ -38,10 +38,10 @@ pub fn put_symbols(
     start: usize,
     out: &mut [u8],
 ) -> Pen
-    requires { ⌜ Limits dim darts (now tables) × Valid byRank dim darts (now tables) × (2 * darts ≤ length (now work))
+    requires { ⌜ Limits dim darts (now tables) × Valid byDart dim darts (now tables) × (2 * darts ≤ length (now work))
         × PenFits 401422 pen × ((root : ℕ) × NumberedFrom dim darts (now tables) root (now work)) ⌝ }
     ensures { λ q. ⌜ ((root : ℕ) → NumberedFrom dim darts (now (tables .entry)) root (now (work .entry))
-        → Put (codes (symbolsOf byRank dim darts (now (tables .entry)) root)) start pen q (now (out .entry))
+        → Put (codes (symbolsOf byDart dim darts (now (tables .entry)) root)) start pen q (now (out .entry))
         (now (out .exit))) ⌝ }
 {
     let mut positions = [0u16; 7];
@@ -87,11 +87,11 @@ pub fn emit(
     start: usize,
     out: &mut [u8],
 ) -> usize
-    requires { ⌜ Limits dim darts (now tables) × Valid byRank dim darts (now tables) × (2 * darts ≤ length (now work))
+    requires { ⌜ Limits dim darts (now tables) × Valid byDart dim darts (now tables) × (2 * darts ≤ length (now work))
         × ((root : ℕ) × NumberedFrom dim darts (now tables) root (now work)) ⌝ }
     ensures { λ r. ⌜ ((root : ℕ) → NumberedFrom dim darts (now (tables .entry)) root (now (work .entry))
-        → (r ≡ length (stream byRank dim darts (now (tables .entry)) root))
-        × (now (out .exit) ≡ penned (stream byRank dim darts (now (tables .entry)) root) start (now (out .entry)))) ⌝ }
+        → (r ≡ length (stream byDart dim darts (now (tables .entry)) root))
+        × (now (out .exit) ≡ penned (stream byDart dim darts (now (tables .entry)) root) start (now (out .entry)))) ⌝ }
 {
     let none = Pen {
         at: 0,
@@ -126,10 +126,10 @@ pub fn write(
     out: &mut [u8],
 ) -> WriteAnswer
     ensures { λ r. ⌜
-        (r ≡ writeAnswer byRank dim darts root start (now (tables .entry)) (now (work .entry)) (now (out .entry)))
-        × (now (work .exit) ≡ writeWork byRank dim darts root (now (tables .entry)) (now (work .entry)))
+        (r ≡ writeAnswer byDart dim darts root start (now (tables .entry)) (now (work .entry)) (now (out .entry)))
+        × (now (work .exit) ≡ writeWork byDart dim darts root (now (tables .entry)) (now (work .entry)))
         × (now (out .exit)
-        ≡ writeOut byRank dim darts root start (now (tables .entry)) (now (work .entry)) (now (out .entry))) ⌝ }
+        ≡ writeOut byDart dim darts root start (now (tables .entry)) (now (work .entry)) (now (out .entry))) ⌝ }
 {
     let c = checker::check(dim, darts, root, tables, work);
     if c.number != 0 {

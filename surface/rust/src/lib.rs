@@ -4,21 +4,22 @@
 //! `./install PREFIX` that is `PREFIX/lib`.
 //!
 //! A map of dimension N (1 to 6) has n darts (1 to 4,096), 0 to n-1, and N+1 links a0..aN for each dart. Its tables are
-//! 16-bit numbers: ai(d) stands at position i·n + d, and ai(d) = d says that dart d is free at rank i. In tables that
-//! are being read, [`NO_LINK`] says "no link yet". `include/kanzhulet.h` says in full what each call stores; this
-//! wrapper calls it and adds no behaviour.
+//! 16-bit numbers, the links of a dart side by side: ai(d) stands at position d·(N+1) + i, which [`place`] gives, and
+//! ai(d) = d says that dart d is free at rank i. In tables that are being read, [`NO_LINK`] says "no link yet".
+//! `include/kanzhulet.h` says in full what each call stores; this wrapper calls it and adds no behaviour.
 //!
 //! Every call takes all values of its numbers and all contents of its slices, and allocates nothing. A call that is not
 //! accepted gives a [`Refusal`].
 //!
 //! ```
 //! // One square: dimension 2, eight darts, 2s and 2s+1 the two ends of side s, every dart free at rank 2.
-//! let square = [1, 0, 3, 2, 5, 4, 7, 6, 7, 2, 1, 4, 3, 6, 5, 0, 0, 1, 2, 3, 4, 5, 6, 7];
+//! let square = [1, 7, 0, 0, 2, 1, 3, 1, 2, 2, 4, 3, 5, 3, 4, 4, 6, 5, 7, 5, 6, 6, 0, 7];
 //! let (mut work, mut out) = ([0; 16], [0; 64]);
 //! let written = kanzhulet::write(2, 8, 0, 0, &square, &mut work, &mut out)?;
 //! let mut tables = [0; 24];
 //! let read = kanzhulet::read(&out[..written.written], &mut tables)?;
 //! assert_eq!((read.dim, read.darts, read.steps), (2, 8, 24));
+//! assert_eq!(tables[kanzhulet::place(2, 1, 0)], 2); // a1(0): dart k is now the k-th that the walk met
 //! let report = kanzhulet::report(2, 8, &tables, &mut work)?;
 //! assert_eq!((report.cells, report.free), ([4, 4, 1, 0, 0, 0, 0], 8));
 //! # Ok::<(), kanzhulet::Refusal>(())
@@ -110,7 +111,8 @@ mod surface {
 pub struct Refusal {
     /// The refusal number, 1 to 23, as `kanzhulet.h` lists them.
     pub number: u32,
-    /// The place that goes with the number: a position in the tables, a dart, a stream's length or the steps done.
+    /// The place that goes with the number: a position in the tables, as [`place`](place()) gives it, a dart, a
+    /// stream's length or the steps done.
     pub place: usize,
 }
 
@@ -198,6 +200,18 @@ pub enum State {
     Refused(Refusal),
 }
 
+/// The position of ai(d) in the tables of a map of dimension N: d·(N+1) + i. Refusals 6 and 7 tell such a position; its
+/// dart is that place / (N+1), its rank place % (N+1).
+///
+/// ```
+/// // Dimension 1, two darts: a1(1) is 0, and a1(0) is not 1.
+/// let refusal = kanzhulet::check(1, 2, 0, &[1, 0, 0, 0], &mut [0; 4]).unwrap_err();
+/// assert_eq!((refusal.number, refusal.place), (7, kanzhulet::place(1, 1, 1)));
+/// ```
+pub const fn place(dim: usize, rank: usize, dart: usize) -> usize {
+    dart * (dim + 1) + rank
+}
+
 /// A call's number and place as a `Result`. The number that is returned is also the first that is stored.
 fn accepted(number: u32, place: u32) -> Result<(), Refusal> {
     match number {
@@ -216,7 +230,8 @@ fn reading(number: u32, answer: [u32; 5]) -> Result<ReadAnswer, Refusal> {
 /// The check of posted tables, from a root: are they a valid connected map? Needs (N+1)·n entries of tables and 2n of
 /// work room; longer slices are allowed, and what is past these is neither read nor written.
 ///
-/// Refused by 1 to 9. After 1 to 8 the work room is unchanged, after 9 its first 2n entries are [`NO_LINK`].
+/// Refused by 1 to 9. Of several links that fail, 6 and 7 tell the first by rank, then dart. After 1 to 8 the work room
+/// is unchanged, after 9 its first 2n entries are [`NO_LINK`].
 pub fn check<'a>(
     dim: usize,
     darts: usize,

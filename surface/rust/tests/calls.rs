@@ -160,7 +160,7 @@ fn read_known_tables(lent: &mut Lent) {
     lent.begin("tables of P1 to P3");
     expect_built(lent, &[0x10, 0x00, 0xA0], &[0, 0]);
     expect_built(lent, &[0x10, 0x01, 0x50], &[1, 0, 0, 1]);
-    expect_built(lent, &[0x10, 0x05, 0x06, 0x00, 0xA0], &[1, 0, 3, 2, 5, 4, 2, 4, 0, 5, 1, 3]);
+    expect_built(lent, &[0x10, 0x05, 0x06, 0x00, 0xA0], &[1, 2, 0, 4, 3, 0, 2, 5, 5, 1, 4, 3]);
 }
 
 // Reading: sessions.
@@ -353,17 +353,18 @@ static UNFIT: &[(&str, &[u32], &[u16])] = &[
     ("running, short tables", &[1, 0, 0, 1, 2, 1], &[NO, NO, NO]),
     ("count 0", &[1, 0, 0, 1, 2, 0], &[NO, NO, NO, NO]),
     ("count above n", &[1, 0, 0, 1, 2, 3], &[NO, NO, NO, NO]),
-    ("position above count", &[1, 0, 0, 1, 2, 1, 2], &[0, 0, NO, NO]),
-    ("rising positions", &[1, 0, 0, 1, 2, 2, 1, 2], &[1, 0, 1, 0]),
+    ("position above count", &[1, 0, 0, 1, 2, 1, 2], &[0, NO, 0, NO]),
+    ("rising positions", &[1, 0, 0, 1, 2, 2, 1, 2], &[1, 1, 0, 0]),
     ("position past N", &[1, 0, 0, 1, 2, 2, 2, 1, 1], &[1, 0, 0, NO]),
     ("entry not below count", &[1, 0, 0, 1, 2, 1, 1, 0], &[1, NO, NO, NO]),
     ("entry missing behind a position", &[1, 0, 0, 1, 2, 2, 1, 0], &[NO, NO, NO, NO]),
-    ("entry of a dart without number", &[1, 0, 0, 1, 2, 1, 0], &[NO, 0, NO, NO]),
-    ("next step known", &[1, 0, 0, 1, 2, 2, 1, 0], &[1, 0, NO, NO]),
+    ("tables by rank", &[1, 0, 0, 1, 2, 2, 2, 0], &[1, 0, NO, NO]),
+    ("entry of a dart without number", &[1, 0, 0, 1, 2, 1, 0], &[NO, NO, 0, NO]),
+    ("next step known", &[1, 0, 0, 1, 2, 2, 1, 0], &[1, NO, 0, NO]),
     ("14 waiting bits", &[1, 0, 0, 1, 2, 1, 0, 0, 0, 0, 0, 0, 0, 14, 0x3000], &[NO, NO, NO, NO]),
     ("waiting bits of a whole symbol", &[1, 0, 0, 1, 2, 1, 0, 0, 0, 0, 0, 0, 0, 2, 2], &[NO, NO, NO, NO]),
     ("complete with a step left", &[2, 0, 0, 1, 2, 2, 2, 1], &[1, 0, 0, NO]),
-    ("complete without its tables", &[2, 0, 0, 1, 2, 2, 2, 2], &[1, 0, NO, NO]),
+    ("complete without its tables", &[2, 0, 0, 1, 2, 2, 2, 2], &[1, NO, 0, NO]),
     ("complete with waiting bits", &[2, 0, 0, 1, 2, 2, 2, 2, 0, 0, 0, 0, 0, 1, 1], &[1, 0, 0, 1]),
 ];
 
@@ -396,15 +397,20 @@ fn lent_refusals_and_closed_records(lent: &mut Lent) {
     expect_close(lent, refused(20, 0));
 }
 
-/// A fit session that no reading could leave is carried on by the same rules: here a0 is not its own inverse, and
-/// dimension 1 has no pair of ranks that the end could test.
+/// First a session between two ranks: a0 of both darts is known, a1 of none. Then a fit one that no reading could
+/// leave, which is carried on by the same rules: its a0 is not its own inverse, and dimension 1 has no pair of ranks
+/// that the end could test.
 fn lent_session_goes_on(lent: &mut Lent) {
     lent.begin("lent session goes on");
-    lent.take_up(record_of(&[1, 0, 0, 1, 2, 2, 2, 1]));
-    lent.built.lend_copy(&[0, 0, 0, NO]);
-    expect_page(lent, &[0x80], reading(4, 1, 2));
-    lent.must(lent.built.at() == [0, 0, 0, 1], "the last link is set");
-    expect_close(lent, reading(4, 1, 2));
+    let between = (0, [1, NO, 0, NO], 0xA0, [1, 0, 0, 1]);
+    let never_left = (1, [0, 0, 0, NO], 0x80, [0, 0, 0, 1]);
+    for (position, tables, byte, after) in [between, never_left] {
+        lent.take_up(record_of(&[1, 0, 0, 1, 2, 2, 2, position]));
+        lent.built.lend_copy(&tables);
+        expect_page(lent, &[byte], reading(4, 1, 2));
+        lent.must(lent.built.at() == after, "the last links are set");
+        expect_close(lent, reading(4, 1, 2));
+    }
 }
 
 // How much to fetch.
@@ -539,25 +545,40 @@ fn rooms_one_entry_short(lent: &mut Lent) {
     }
 }
 
+/// Spoils links of six free darts, from the last rank on, each of a later dart than the one before: the last one is the
+/// first by rank, then dart, and is told, though it stands behind all others. Then one of its rank and an earlier dart.
+fn told_by_rank_then_dart(lent: &mut Lent, entry: u16, number: u32) {
+    let m = post_free(lent, 3, 6);
+    for (rank, dart, place) in [(3, 0, 3), (2, 1, 6), (1, 2, 9), (0, 4, 16), (0, 1, 4)] {
+        lent.must(m.place(rank, dart) == place, "the links of a dart stand side by side");
+        lent.posted.at_mut()[place] = entry;
+        all_refuse(lent, m, 0, number, place);
+        all_refuse(lent, m, 5, number, place);
+    }
+}
+
 fn entries_not_below_n(lent: &mut Lent) {
     lent.begin("entries not below n");
     let m = post_ring(lent, 3);
-    lent.posted.at_mut()[11] = NO_LINK;
+    lent.posted.at_mut()[11] = NO_LINK; // a1(5)
     all_refuse(lent, m, 0, 6, 11);
-    lent.posted.at_mut()[4] = 6;
+    lent.posted.at_mut()[4] = 6; // a0(2)
     all_refuse(lent, m, 0, 6, 4);
-    all_refuse(lent, m, 5, 6, 4);
+    told_by_rank_then_dart(lent, 6, 6); // there is no dart 6
 }
 
-/// The place is the first position that fails, not the entry one would mend.
+/// The place is where the link stands that fails, not the entry one would mend.
 fn links_not_their_own_inverse(lent: &mut Lent) {
     lent.begin("links not their own inverse");
     let m = post_free(lent, 1, 2);
-    lent.posted.at_mut()[..2].copy_from_slice(&[1, 1]);
+    lent.posted.at_mut()[0] = 1; // a0(0), and a0(1) is 1
     all_refuse(lent, m, 0, 7, 0);
     let m = post_ring(lent, 3);
-    lent.posted.at_mut()[6 + 3] = 0;
-    all_refuse(lent, m, 0, 7, 6 + 3);
+    lent.posted.at_mut()[7] = 0; // a1(3)
+    all_refuse(lent, m, 0, 7, 7);
+    lent.posted.at_mut()[10] = 3; // a0(5), and a0(4) does not lead back
+    all_refuse(lent, m, 0, 7, 8);
+    told_by_rank_then_dart(lent, 5, 7); // dart 5 stays free: no link to it leads back
 }
 
 /// Ranks 0 and 3 break the condition at dart 4, ranks 1 and 3 at dart 0: the pair comes first, then the dart.
@@ -592,10 +613,10 @@ fn post_faults(lent: &mut Lent, mended: usize) -> (Map, usize, usize) {
     tie(lent, m, 0, 4, 5);
     tie(lent, m, 1, 1, 2);
     if mended < 6 {
-        lent.posted.at_mut()[17] = 6;
+        lent.posted.at_mut()[17] = 6; // a2(5)
     }
     if mended < 7 {
-        lent.posted.at_mut()[9] = 0;
+        lent.posted.at_mut()[10] = 0; // a1(3)
     }
     if mended < 8 {
         tie(lent, m, 2, 2, 4);
@@ -616,7 +637,7 @@ fn post_faults(lent: &mut Lent, mended: usize) -> (Map, usize, usize) {
 fn first_fault_is_answered(lent: &mut Lent) {
     lent.begin("first fault");
     lent.out.lend(9);
-    for (mended, place) in [0, 0, 0, 0, 0, 17, 9, 2, 4].into_iter().enumerate() {
+    for (mended, place) in [0, 0, 0, 0, 0, 17, 10, 2, 4].into_iter().enumerate() {
         let number = mended as u32 + 1;
         let (m, root, start) = post_faults(lent, mended);
         let checked = lent.check(m, root);
@@ -708,9 +729,9 @@ fn starts_at_and_past_the_end(lent: &mut Lent) {
 /// Are the tables built from the stream the posted map's, each dart under its walk number?
 fn built_under(lent: &Lent, m: Map, numbers: &[u16]) -> bool {
     let (posted, built) = (lent.posted.at(), lent.built.at());
-    (0..m.entries()).all(|k| {
-        let row = k - k % m.darts;
-        built[row + numbers[k % m.darts] as usize] == numbers[posted[k] as usize]
+    (0..m.darts).all(|d| {
+        let number = numbers[d] as usize;
+        (0..=m.dim).all(|i| built[m.place(i, number)] == numbers[posted[m.place(i, d)] as usize])
     })
 }
 
@@ -794,6 +815,7 @@ fn longest_stream(lent: &mut Lent) {
     lent.work.shorten(MAX_WORK);
     let stream = write_whole(lent, m, 0);
     lent.must(stream.len() == 14854, "the length is the longest");
+    lent.must(m.place(6, MAX_DARTS - 1) == MAX_TABLES - 1, "the last link stands last");
     let whole = read_whole(lent, &stream, MAX_TABLES);
     lent.expect(whole.answer, reading(MAX_TABLES, 6, MAX_DARTS));
     feed_pages_of(lent, &stream, &whole, 4096);

@@ -2,7 +2,7 @@
 use mathlib.Core.Path.{refl, sym, _∙_}
 use borrow.Author.Tests.{not-false}
 use borrow.Author.Needs.{needs}
-use Rattle.rules.specs.Map.{byRank}
+use Rattle.rules.specs.Map.{byDart}
 use Rattle.rules.specs.Reading.{plainAnswer}
 use Rattle.rules.specs.Session.{close}
 use Rattle.stored.specs.Answers.{readNumbers}
@@ -23,7 +23,7 @@ returns c =
     let tested = c .before in
     let asked = tested .before in
     let a = asked .before .before .before .args in
-    not-standing (λ s. stored (close byRank s (a .tables .now))) (readNumbers (plainAnswer 19 0)) (a .kept .now) (a .tables .now)
+    not-standing (λ s. stored (close byDart s (a .tables .now))) (readNumbers (plainAnswer 19 0)) (a .kept .now) (a .tables .now)
     (asked .stands .ensures) (tested .if1 .taken) (c .unfit-numbers .ensures) refl
 
 session-of-requires : tie.Need-session-of-requires
@@ -51,7 +51,7 @@ returns-2 c =
     let asked = tested .before in
     let a = asked .before .before .before .args in
     let e = close-stored _ _ (called .close .ensures) (kept .stored-session .ensures) (c .read-numbers .ensures) in (
-      by-session (λ s. stored (close byRank s (a .tables .now))) (readNumbers (plainAnswer 19 0)) (a .kept .now) (a .tables .now)
+      by-session (λ s. stored (close byDart s (a .tables .now))) (readNumbers (plainAnswer 19 0)) (a .kept .now) (a .tables .now)
           (asked .stands .ensures) (tested .if1 .left) (given .session-of .ensures) _ e,
       rw (c .read-numbers .ensures) refl,
     )

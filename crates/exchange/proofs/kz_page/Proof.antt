@@ -4,7 +4,7 @@ use mathlib.Core.Path.{refl, sym, _∙_}
 use mathlib.Core.List.{List}
 use borrow.Author.Tests.{not-false}
 use borrow.Author.Needs.{needs}
-use Rattle.rules.specs.Map.{byRank}
+use Rattle.rules.specs.Map.{byDart}
 use Rattle.rules.specs.Reading.{plainAnswer}
 use Rattle.rules.specs.Fetch.{pageCall}
 use Rattle.stored.specs.Answers.{pageNumbers}
@@ -29,7 +29,7 @@ returns c =
     let tested = c .before in
     let asked = tested .before in
     let a = asked .before .before .before .before .args in
-    not-standing (λ s. pageStored (pageCall byRank s (a .bytes .now) (a .tables .now))) unfit (a .kept .now) (a .tables .now)
+    not-standing (λ s. pageStored (pageCall byDart s (a .bytes .now) (a .tables .now))) unfit (a .kept .now) (a .tables .now)
     (asked .stands .ensures) (tested .if1 .taken) (c .unfit-page-numbers .ensures) refl
 
 session-of-requires : tie.Need-session-of-requires
@@ -58,7 +58,7 @@ returns-2 c =
     let asked = tested .before in
     let a = asked .before .before .before .before .args in
     let e = page-stored _ _ (called .page .ensures) (kept .stored-session .ensures) (stored .page-numbers .ensures) in (
-      by-session (λ s. pageStored (pageCall byRank s (a .bytes .now) (a .tables .now))) unfit (a .kept .now) (a .tables .now)
+      by-session (λ s. pageStored (pageCall byDart s (a .bytes .now) (a .tables .now))) unfit (a .kept .now) (a .tables .now)
           (asked .stands .ensures) (tested .if1 .left) (given .session-of .ensures) _ e,
       rw (stored .page-numbers .ensures) refl,
     )

@@ -1,60 +1,101 @@
--- `fitness::entries_fit` meets its contract: every entry of a rank before this one fits. Assumes nothing.
-use Prim.Native.Nat.{suc, _-_}
+-- `fitness::entries_fit` meets its contract: each answer is what the runs before it leave. Assumes nothing.
 use mathlib.Core.Path.{sym, _∙_}
 use native.Mathlib.Omega.{arith}
+use lib.ListN.{getD}
+use borrow.Author.Needs.{needs}
 use borrow.Author.Tests.{not-true, not-false}
-use Rattle.fitness.proofs.Laws.{PassedSoFar, passed-start, passed-next, passed-end, fails-at, rankAt, by-ranks}
+use Rattle.fitness.proofs.Laws.{Runs, runs-end, entries-known, entries-open, entries-blank, entries-passed}
 use Rattle.fitness.proofs.entries_fit.Statement.{statement}
 use Rattle.fitness.proofs.entries_fit.Tie as tie
 
-abbrev Inv-loop : tie.InvT-loop
-Inv-loop tables dim darts count positions rank₀ rank = PassedSoFar (rankAt dim darts tables count positions) (suc dim) rank
+-- where the runs end
+ends : (c : tie.Start) → let a = c .args in Runs (a .dim) (a .darts) (a .count) (getD (a .t5) (a .dim) 0)
+ends c = let p = c .pre in runs-end _ _ _ _ (c .args .t5) (p .0) (p .1) (p .2) (p .3)
 
-abbrev μ-loop : tie.MeasureT-loop
-μ-loop tables dim darts count positions rank₀ rank = suc dim - rank
+add-passed : tie.Need-add-passed
+add-passed c = search needs
 
-loop-holds : tie.Need-loop-holds Inv-loop μ-loop
-loop-holds c = passed-start _ _
+mul-passed : tie.Need-mul-passed
+mul-passed c = search needs
 
-mul-rank-fits : tie.Need-mul-rank-fits Inv-loop μ-loop
-mul-rank-fits c = omega arith
+array-read-passed : tie.Need-array-read-passed
+array-read-passed c = search needs
 
-array-read-rank-fits : tie.Need-array-read-rank-fits Inv-loop μ-loop
-array-read-rank-fits c = omega arith
+cast-passed : tie.Need-cast-passed
+cast-passed c = search needs
 
-rank-fits-requires : tie.Need-rank-fits-requires Inv-loop μ-loop
-rank-fits-requires c κs =
-    let p = c .before .before .before .pre in
-    (p .0, omega arith, p .1, p .2 (c .before .loop .rank) (omega arith))
+mul-passed-2 : tie.Need-mul-passed-2
+mul-passed-2 c = omega (arith, ends (c .before))
 
-returns : tie.Need-returns Inv-loop μ-loop
+add-numbered : tie.Need-add-numbered
+add-numbered c = search needs
+
+mul-numbered : tie.Need-mul-numbered
+mul-numbered c = omega (arith, ends (c .before))
+
+known-fit-requires : tie.Need-known-fit-requires
+known-fit-requires c κs = omega (arith, ends (c .before))
+
+returns : tie.Need-returns
 returns c =
-    fails-at _ _ (c .before .before .before .loop .rank) (omega arith) (sym (c .before .rank-fits .ensures) ∙ not-true _ (c .if1 .taken)) ∙ by-ranks _ _ _ _ _
+    let p = c .before .before .before .pre in
+    entries-known _ _ _ _ _ (p .0) (p .1) (p .2) (p .3) (sym (c .before .known-fit .ensures) ∙ not-true _ (c .if1 .taken))
 
-add-rank : tie.Need-add-rank Inv-loop μ-loop
-add-rank c = omega arith
+open-fit-requires : tie.Need-open-fit-requires
+open-fit-requires c κs = omega (arith, ends (c .before .before .before))
 
-loop-less : tie.Need-loop-less Inv-loop μ-loop
-loop-less c = omega arith
+returns-2 : tie.Need-returns-2
+returns-2 c =
+    let p = c .before .before .before .before .before .pre in
+    entries-open _ _ _ _ _ (p .0) (p .1) (p .2) (p .3) (sym (c .before .open-fit .ensures) ∙ not-true _ (c .if2 .taken))
 
-loop-again : tie.Need-loop-again Inv-loop μ-loop
-loop-again c = passed-next (c .before .before .before .loop .inv) (omega arith) (sym (c .before .rank-fits .ensures) ∙ not-false _ (c .if1 .left))
+add-blank-fit : tie.Need-add-blank-fit
+add-blank-fit c = search needs
 
-returns-2 : tie.Need-returns-2 Inv-loop μ-loop
-returns-2 c = passed-end (c .before .loop .inv) (omega arith) ∙ by-ranks _ _ _ _ _
+mul-blank-fit : tie.Need-mul-blank-fit
+mul-blank-fit c = search needs
+
+blank-fit-requires : tie.Need-blank-fit-requires
+blank-fit-requires c κs = omega (arith, ends (c .before .before .before .before .before))
+
+returns-3 : tie.Need-returns-3
+returns-3 c =
+    let p = c .before .before .before .before .before .before .before .pre in
+    entries-blank _ _ _ _ _ (p .0) (p .1) (p .2) (p .3) (sym (c .before .blank-fit .ensures) ∙ not-true _ (c .if3 .taken))
+
+ranks-passed-requires : tie.Need-ranks-passed-requires
+ranks-passed-requires c κs =
+    let p = c .before .before .before .before .before .before .before .pre in
+    (p .0, λ i h. omega (arith, p .2 i h), p .3)
+
+returns-4 : tie.Need-returns-4
+returns-4 c =
+    let b = c .before in
+    let o = b .before .before in
+    let k = o .before .before in
+    let p = k .before .before .before .pre in
+    entries-passed _ _ _ _ _ (p .0) (p .1) (p .2) (p .3) (sym (k .before .known-fit .ensures) ∙ not-false _ (k .if1 .left))
+    (sym (o .before .open-fit .ensures) ∙ not-false _ (o .if2 .left)) (sym (b .before .blank-fit .ensures) ∙ not-false _ (b .if3 .left)) _
+    (c .ranks-passed .ensures)
 
 pub entries-fit-spec : {M : Type 1} → statement M
 entries-fit-spec =
     tie.close
     (tie.spec
-    Inv-loop
-    μ-loop
-    loop-holds
-    mul-rank-fits
-    array-read-rank-fits
-    rank-fits-requires
+    add-passed
+    mul-passed
+    array-read-passed
+    cast-passed
+    mul-passed-2
+    add-numbered
+    mul-numbered
+    known-fit-requires
     returns
-    add-rank
-    loop-less
-    loop-again
-    returns-2)
+    open-fit-requires
+    returns-2
+    add-blank-fit
+    mul-blank-fit
+    blank-fit-requires
+    returns-3
+    ranks-passed-requires
+    returns-4)

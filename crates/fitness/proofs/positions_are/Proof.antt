@@ -1,8 +1,9 @@
 -- `fitness::positions_are` meets its contract: every position before i is x. Assumes nothing.
 use Prim.Native.Nat.{_-_}
 use native.Mathlib.Omega.{arith}
+use Rattle.rules.proofs.Lists.{PassedSoFar, passed-start, passed-next, passed-end, fails-at}
 use Rattle.fitness.specs.Parts.{isAt}
-use Rattle.fitness.proofs.Laws.{PassedSoFar, passed-start, passed-next, passed-end, fails-at, is-yes, is-no}
+use Rattle.fitness.proofs.Laws.{is-yes, is-no}
 use Rattle.fitness.proofs.positions_are.Statement.{statement}
 use Rattle.fitness.proofs.positions_are.Tie as tie
 

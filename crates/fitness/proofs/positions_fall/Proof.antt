@@ -4,8 +4,9 @@ use mathlib.Core.Path.{_≡_, refl}
 use mathlib.Core.List.{_∷_}
 use native.Mathlib.Omega.{arith}
 use lib.ListN.{getD}
+use Rattle.rules.proofs.Lists.{PassedSoFar, passed-start, passed-next, passed-end, fails-at}
 use Rattle.fitness.specs.Parts.{fallsAt}
-use Rattle.fitness.proofs.Laws.{PassedSoFar, passed-start, passed-next, passed-end, fails-at, falls-no, falls-yes, next-above}
+use Rattle.fitness.proofs.Laws.{falls-no, falls-yes, next-above}
 use Rattle.fitness.proofs.positions_fall.Statement.{statement}
 use Rattle.fitness.proofs.positions_fall.Tie as tie
 

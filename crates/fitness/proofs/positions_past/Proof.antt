@@ -1,8 +1,9 @@
 -- `fitness::positions_past` meets its contract: every position past N and before i is 0. Assumes nothing.
 use Prim.Native.Nat.{_-_, _<_}
 use native.Mathlib.Omega.{arith}
+use Rattle.rules.proofs.Lists.{PassedSoFar, passed-next, passed-end, fails-at}
 use Rattle.fitness.specs.Parts.{overAt}
-use Rattle.fitness.proofs.Laws.{PassedSoFar, past-start, passed-next, passed-end, fails-at, past-no, past-yes}
+use Rattle.fitness.proofs.Laws.{past-start, past-no, past-yes}
 use Rattle.fitness.proofs.positions_past.Statement.{statement}
 use Rattle.fitness.proofs.positions_past.Tie as tie
 

@@ -3,8 +3,8 @@ use mathlib.Core.Path.{sym, _∙_}
 use native.Mathlib.Omega.{arith}
 use borrow.Author.Needs.{needs}
 use borrow.Author.Tests.{not-false}
-use Rattle.fitness.proofs.Laws.{Sized, falls-below, few-entries, walk-low, walk-high, walk-none, walk-many, walk-short, walk-empty, walk-over}
-use Rattle.fitness.proofs.Laws.{walk-rising, walk-past, walk-entries}
+use Rattle.fitness.proofs.Laws.{Sized, falls-below, falls-last, few-entries, walk-low, walk-high, walk-none, walk-many, walk-short, walk-empty}
+use Rattle.fitness.proofs.Laws.{walk-over, walk-rising, walk-past, walk-entries}
 use Rattle.fitness.proofs.walk_fits.Statement.{statement}
 use Rattle.fitness.proofs.walk_fits.Tie as tie
 
@@ -55,7 +55,7 @@ add-if5 : tie.Need-add-if5
 add-if5 c = search needs
 
 mul-if5 : tie.Need-mul-if5
-mul-if5 c = record { fits = few-entries _ _ (c .before .before .if2 .left) (c .if4 .left) }
+mul-if5 c = omega (arith, few-entries _ _ (c .before .before .if2 .left) (c .if4 .left))
 
 returns-5 : tie.Need-returns-5
 returns-5 c = walk-short _ _ (c .if5 .taken)
@@ -83,8 +83,8 @@ returns-9 c = walk-past _ _ _ (c .before .before .before .positions-fall .ensure
 
 entries-fit-requires : tie.Need-entries-fit-requires
 entries-fit-requires c κs =
-    let l = falls-below _ _ _ (sym (c .before .before .before .positions-fall .ensures) ∙ not-false _ (c .before .before .if8 .left)) in
-    (search needs, search needs, λ i h. omega (arith, l i h))
+    let e = sym (c .before .before .before .positions-fall .ensures) ∙ not-false _ (c .before .before .if8 .left) in
+    (search needs, search needs, λ i h. omega (arith, falls-below _ _ _ e i h), falls-last _ _ _ e)
 
 returns-10 : tie.Need-returns-10
 returns-10 c =

@@ -40,7 +40,7 @@ use denote.Triple.Clauses.{ensured, lasts}
 use denote.Triple.Table.{entered, cited}
 use denote.Triple.Walked.{says, Stays, stay-ref, gave-slice, walkOf, goes-ref, goes-gave-slice, Walks, ends-at, walked, walk-meets}
 use denote.Signature.{plain}
-use Rattle.rules.specs.Map.{byRank}
+use Rattle.rules.specs.Map.{byDart}
 use Rattle.rules.specs.Session.{close}
 use Rattle.records.specs.Lefts.{leftBy}
 use Rattle.lent.specs.Lent.{lentBy}
@@ -71,7 +71,7 @@ Close 𝓤 H A mem run = tripleOf 𝓤 H A valued.signature (valued.spec 𝓤 H 
 
 -- what both contracts say: of the record at entry, the tables at entry, the record at exit, the answer and the tables at exit
 abbrev Says : Session → List ℕ → Session → ReadAnswer → List ℕ → Type 0
-Says d ts d′ a zs = lentBy d′ a zs ≡ close byRank d ts
+Says d ts d′ a zs = lentBy d′ a zs ≡ close byDart d ts
 
 module _ {M : Type 1} (𝓤 : URA M) (H : Heap 𝓤) (A : Atoms 𝓤) (W : Given 𝓤 H A) (at-mem : Memory → SProp 𝓤) (run : Routine → Fun 𝓤) (κ κ₁ : Lft)
     (q q₁ : Share) (b o : ℕ) (γ : GName) (d : Session) (ts : RefT (List ℕ)) where

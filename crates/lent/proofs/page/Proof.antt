@@ -41,7 +41,7 @@ use denote.Triple.Table.{entered, cited}
 use denote.Triple.Walked.{says, Stays, stay-ref, stay-dropped, gave-slice, walkOf, goes-ref, goes-dropped, goes-gave-slice, Walks, ends-at, walked, walk-meets}
 use denote.Exit.{yes}
 use denote.Signature.{plain, shrSliceOf}
-use Rattle.rules.specs.Map.{byRank}
+use Rattle.rules.specs.Map.{byDart}
 use Rattle.rules.specs.Fetch.{pageCall}
 use Rattle.lent.specs.Lent.{pageLentBy}
 use Rattle.rules.specs.declared.Session.{Session}
@@ -77,7 +77,7 @@ Page 𝓤 H A mem run = tripleOf 𝓤 H A valued.signature (valued.spec 𝓤 H A
 
 -- what both contracts say: of the record at entry, the bytes, the tables at entry, the record at exit, the answer and the tables at exit
 abbrev Says : Session → List ℕ → List ℕ → Session → PageAnswer → List ℕ → Type 0
-Says d bs ts d′ a zs = pageLentBy d′ a zs ≡ pageCall byRank d bs ts
+Says d bs ts d′ a zs = pageLentBy d′ a zs ≡ pageCall byDart d bs ts
 
 module _ {M : Type 1} (𝓤 : URA M) (H : Heap 𝓤) (A : Atoms 𝓤) (W : Given 𝓤 H A) (at-mem : Memory → SProp 𝓤) (run : Routine → Fun 𝓤) (κ κ₁ κ₂ : Lft)
     (q q₁ q₂ : Share) (b o : ℕ) (γ : GName) (d : Session) (bs ts : RefT (List ℕ)) where

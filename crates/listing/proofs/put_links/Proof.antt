@@ -3,7 +3,7 @@ use Prim.Native.Nat.{suc, _+_, _-_, _≤_}
 use mathlib.Core.Path.{_≡_, refl, ap, _∙_}
 use native.Mathlib.Omega.{arith}
 use lib.ListN.{length}
-use Rattle.rules.specs.Map.{byRank, link}
+use Rattle.rules.specs.Map.{byDart, link}
 use Rattle.listing.specs.Listing.{links}
 use Rattle.words.specs.Words.{spaced}
 use Rattle.words.proofs.Laws.{Row, row-none, row-next, row-end}
@@ -12,7 +12,7 @@ use Rattle.listing.proofs.put_links.Tie as tie
 
 abbrev Inv-loop : tie.InvT-loop
 Inv-loop out₀ at tables dim darts d end₀ i₀ out end i =
-    (i ≤ dim + 1) × (length out ≡ length out₀) × Row out₀ at 21 (λ k. spaced (link byRank dim darts tables k d)) out end i
+    (i ≤ dim + 1) × (length out ≡ length out₀) × Row out₀ at 21 (λ k. spaced (link byDart dim darts tables k d)) out end i
 
 abbrev μ-loop : tie.MeasureT-loop
 μ-loop out₀ at tables dim darts d end₀ i₀ out end i = dim + 1 - i

@@ -3,7 +3,7 @@ use borrow.Author.Needs.{needs}
 use mathlib.Core.Path.{_≡_, sym, _∙_}
 use mathlib.Core.List.{[]}
 use lib.ListN.{length, length-map}
-use Rattle.rules.specs.Map.{byRank}
+use Rattle.rules.specs.Map.{byDart}
 use Rattle.rules.specs.declared.State.{State}
 use Rattle.rules.specs.declared.State.the-variants.{Header, Running, Complete, Closed, Refused}
 use Rattle.rules.specs.Session.{Left, closeAs}
@@ -20,9 +20,9 @@ seven : (c : tie.Start) → length (c .args .s .positions) ≡ 7
 seven c = sym (length-map (c .args .s .positions) (λ v. v)) ∙ c .good .0 .1 .1 .1 .1 .1 .1 .0 .1 .0 .1
 
 -- what is left by the state is what is left
-by : (c : tie.Start) (st : State) (l : Left) → c .args .s .state ≡ st → l ≡ closeAs byRank st (c .args .s) (c .args .tables .now)
-    → l ≡ closeAs byRank (c .args .s .state) (c .args .s) (c .args .tables .now)
-by c st l q e = by-state (λ (x : State). closeAs byRank x (c .args .s) (c .args .tables .now)) (c .args .s) st l q e
+by : (c : tie.Start) (st : State) (l : Left) → c .args .s .state ≡ st → l ≡ closeAs byDart st (c .args .s) (c .args .tables .now)
+    → l ≡ closeAs byDart (c .args .s .state) (c .args .s) (c .args .tables .now)
+by c st l q e = by-state (λ (x : State). closeAs byDart x (c .args .s) (c .args .tables .now)) (c .args .s) st l q e
 
 stand-of-requires : tie.Need-stand-of-requires
 stand-of-requires c κs = search needs

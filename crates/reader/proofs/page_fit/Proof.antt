@@ -3,7 +3,7 @@ use borrow.Author.Needs.{needs}
 use mathlib.Core.Path.{_≡_, sym, _∙_}
 use mathlib.Core.Logic.{inl, inr}
 use lib.ListN.{length, length-map}
-use Rattle.rules.specs.Map.{byRank}
+use Rattle.rules.specs.Map.{byDart}
 use Rattle.rules.specs.declared.State.{State}
 use Rattle.rules.specs.declared.State.the-variants.{Header, Running, Complete, Closed, Refused}
 use Rattle.rules.specs.Stream.{unpack}
@@ -22,9 +22,9 @@ seven c = sym (length-map (c .args .s .positions) (λ v. v)) ∙ c .good .0 .1 .
 
 -- what is left by the state is what is left
 by : (c : tie.Start) (st : State) (l : Left) → c .args .s .state ≡ st
-    → l ≡ pageAs byRank st (c .args .s) (unpack (c .args .page .now)) (c .args .tables .now)
-    → l ≡ pageAs byRank (c .args .s .state) (c .args .s) (unpack (c .args .page .now)) (c .args .tables .now)
-by c st l q e = by-state (λ (x : State). pageAs byRank x (c .args .s) (unpack (c .args .page .now)) (c .args .tables .now)) (c .args .s) st l q e
+    → l ≡ pageAs byDart st (c .args .s) (unpack (c .args .page .now)) (c .args .tables .now)
+    → l ≡ pageAs byDart (c .args .s .state) (c .args .s) (unpack (c .args .page .now)) (c .args .tables .now)
+by c st l q e = by-state (λ (x : State). pageAs byDart x (c .args .s) (unpack (c .args .page .now)) (c .args .tables .now)) (c .args .s) st l q e
 
 enum-told : tie.Need-enum-told
 enum-told c = search needs

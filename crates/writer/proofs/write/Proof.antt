@@ -4,7 +4,7 @@ use mathlib.Core.Path.{_≡_}
 use native.Mathlib.Omega.{arith}
 use lib.ListN.{length}
 use borrow.Author.Needs.{needs}
-use Rattle.rules.specs.Map.{byRank}
+use Rattle.rules.specs.Map.{byDart}
 use Rattle.rules.specs.Writing.{stream, writeWork}
 use Rattle.replay.specs.Replays.{NumberedFrom}
 use Rattle.pen.specs.Pens.{penned}
@@ -27,7 +27,7 @@ numbered : (c : tie.Else1)
     → let a = start (checked c) .args in NumberedFrom (a .dim) (a .darts) (a .tables .now) (a .root) (checked c .check .last .1 .1 .1 .1 .0)
 numbered c = let k = checked c in write-numbered _ _ _ _ (start k .args .work .now) _ (k .check .ensures .0) (c .if1 .left) _ (k .check .ensures .1)
 
-put : (c : tie.After-emit) → let a = start (checked (passed c)) .args in let s = stream byRank (a .dim) (a .darts) (a .tables .now) (a .root) in
+put : (c : tie.After-emit) → let a = start (checked (passed c)) .args in let s = stream byDart (a .dim) (a .darts) (a .tables .now) (a .root) in
     (c .emit .result ≡ length s) × (c .emit .last .1 .1 .1 .1 .1 .0 ≡ penned s (a .start) (a .out .now))
 put c = c .emit .ensures (start (checked (passed c)) .args .root) (numbered (passed c))
 

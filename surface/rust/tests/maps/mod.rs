@@ -8,7 +8,7 @@ use kanzhulet::{MAX_DARTS, NO_LINK};
 /// Darts that are free at every rank.
 pub fn post_free(lent: &mut Lent, dim: usize, darts: usize) -> Map {
     let m = Map { dim, darts };
-    let mut tables: Vec<u16> = (0..m.entries()).map(|k| (k % darts) as u16).collect();
+    let mut tables: Vec<u16> = (0..m.entries()).map(|k| (k / (dim + 1)) as u16).collect();
     tables.extend([NO_LINK; SPARE]);
     lent.posted.lend_copy(&tables);
     lent.work.lend(2 * darts + SPARE);
@@ -16,8 +16,8 @@ pub fn post_free(lent: &mut Lent, dim: usize, darts: usize) -> Map {
 }
 
 pub fn tie(lent: &mut Lent, m: Map, rank: usize, d: usize, e: usize) {
-    lent.posted.at_mut()[rank * m.darts + d] = e as u16;
-    lent.posted.at_mut()[rank * m.darts + e] = d as u16;
+    lent.posted.at_mut()[m.place(rank, d)] = e as u16;
+    lent.posted.at_mut()[m.place(rank, e)] = d as u16;
 }
 
 /// Where place x of a path of this length goes: the even involution pairs 0-1, 2-3 and so on, the odd one 1-2, 3-4 and

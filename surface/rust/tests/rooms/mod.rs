@@ -86,6 +86,10 @@ impl Map {
     pub fn entries(self) -> usize {
         (self.dim + 1) * self.darts
     }
+
+    pub fn place(self, rank: usize, dart: usize) -> usize {
+        kanzhulet::place(self.dim, rank, dart)
+    }
 }
 
 pub fn refused<T>(number: u32, place: usize) -> Result<T, Refusal> {
