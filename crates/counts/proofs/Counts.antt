@@ -2,27 +2,24 @@
 -- Rests on the flood's Orbits and the rules' Orbits.
 use Prim.Native.Nat.{ℕ, zero, suc, _+_, _*_, _-_, _≤_, _<_}
 use mathlib.Core.Path.{_≡_, refl, ap, sym, _∙_}
-use mathlib.Core.Logic.{_≢_, _⊎_, inl, inr}
+use mathlib.Core.Logic.{_⊎_, inl, inr}
 use mathlib.Core.Bool.{Bool, true, false, not, cond}
 use mathlib.Core.List.{List}
 use native.Mathlib.Omega.{arith}
 use native.Mathlib.Decide.{ℕ-discrete, decLe, decLt}
 use lib.ListN.{length, getD, set, replicate, length-set}
 use lib.Seq.{ext-getD, getD-set-same, getD-set-other}
-use lib.Dec.{eqb, leb}
-use borrow.Author.Tests.{eq-eqb, ne-eqb, le-leb, lt-leb}
+use lib.Dec.{leb}
+use borrow.Author.Tests.{le-leb, lt-leb}
 use Rattle.rules.specs.Lists.{listOf, someBelow, countBelow}
-use Rattle.rules.specs.Map.{byDart, mark, size, place, blank, Reached, allBut, Valid, Limits, reaches}
-use Rattle.rules.specs.Report.{leads, cells, freePairs, cellCounts}
+use Rattle.rules.specs.Map.{byDart, mark, blank, Reached, allBut, Valid, reaches}
+use Rattle.rules.specs.Report.{leads, cells, cellCounts}
 use Rattle.rules.proofs.Lists.{length-listOf, getD-listOf, getD-same, some-below, below-some}
-use Rattle.rules.proofs.Places.{rank-nth, dart-nth}
-use Rattle.tables.proofs.Laws.{entry-link}
 use Rattle.rules.proofs.Orbits.{valid-closed, reached-sym, reaches-reached, reached-reaches}
 use Rattle.flood.specs.Flood.{Marked, Queue, Extended, Linked, Explored, Flooded}
 use Rattle.flood.proofs.Queues.{full-marked, marked-full, extended-marked, queue-blanked, none-blanked}
 use Rattle.flood.proofs.Floods.{linked-reached}
 use Rattle.flood.proofs.Orbits.{reached-marked, flooded-on, flooded-start, flooded-cases, flooded-explored}
-use Rattle.counts.specs.Tests.{isFree}
 
 -- c numbers below k pass a test: one number more
 pub count-yes : (f : ℕ → Bool) (k c : ℕ) → f k ≡ true → c ≡ countBelow k f → c + 1 ≡ countBelow (k + 1) f
@@ -36,40 +33,6 @@ count-no f k c q h = let e : k + 1 ≡ suc k = omega arith in rw (e, q) (omega a
 pub count-none : (f : ℕ → Bool) → countBelow 0 f ≡ 0
 unfolding countBelow
 count-none f = refl
-
--- m numbers more
-count-on : (f : ℕ → Bool) (k m : ℕ) → countBelow (k + m) f ≡ countBelow k f + countBelow m (λ d. f (k + d))
-unfolding countBelow
-count-on f k zero = let e : k + 0 ≡ k = omega arith in rw e (omega arith)
-count-on f k (suc m) = let e : k + suc m ≡ suc (k + m) = omega arith in rw e (omega (arith, count-on f k m))
-
--- no row of n numbers, and one row more
-pub rows-none : (f : ℕ → Bool) (n : ℕ) → 0 ≡ countBelow (0 * n) f
-rows-none f n = let z : 0 * n ≡ 0 = omega arith in rw z (sym (count-none f))
-
-pub rows-next : (f : ℕ → Bool) (n i found more : ℕ) → found ≡ countBelow (i * n) f → more ≡ countBelow n (λ d. f (i * n + d))
-    → found + more ≡ countBelow ((i + 1) * n) f
-rows-next f n i found more e q = let z : (i + 1) * n ≡ i * n + n = omega arith in rw (z, e, q) (sym (count-on f (i * n) n))
-
-pub rows-end : (f : ℕ → Bool) (N n i found : ℕ) → i ≡ N + 1 → found ≡ countBelow (i * n) f → found ≡ countBelow (size N n) f
-rows-end f N n i found e c = let z : i * n ≡ size N n = rw e (omega arith) in c ∙ ap (λ (x : ℕ). countBelow x f) z
-
--- the test of the code, x being the entry that it read
-module _ (N n : ℕ) (t : List ℕ) (i d x : ℕ) (L : Limits N n t) (hi : i ≤ N) (hd : d < n) (e : x ≡ getD t (place byDart N n i d) 0) where
-  free-test : isFree N n t (i * n + d) ≡ eqb x d
-  unfolding isFree
-  free-test = rw (rank-nth n i d hd, dart-nth n i d hd, ← entry-link N n t i d L hi hd, e)
-
-  pub free-yes : (free : ℕ) → x ≡ d → free ≡ countBelow d (λ d. isFree N n t (i * n + d)) → free + 1 ≡ countBelow (d + 1) (λ d. isFree N n t (i * n + d))
-  free-yes free h = count-yes (λ d. isFree N n t (i * n + d)) d free (free-test ∙ eq-eqb x d h)
-
-  pub free-no : (free : ℕ) → x ≢ d → free ≡ countBelow d (λ d. isFree N n t (i * n + d)) → free ≡ countBelow (d + 1) (λ d. isFree N n t (i * n + d))
-  free-no free h = count-no (λ d. isFree N n t (i * n + d)) d free (free-test ∙ ne-eqb x d h)
-
--- every rank
-pub free-end : (N n : ℕ) (t : List ℕ) (i free : ℕ) → i ≡ N + 1 → free ≡ countBelow (i * n) (isFree N n t) → free ≡ freePairs byDart N n t
-unfolding freePairs isFree
-free-end N n t i free e c = rows-end (isFree N n t) N n i free e c
 
 -- floods of the cells of rank i have come to dart d
 pub record Swept (N n : ℕ) (t : List ℕ) (i d tail found : ℕ) (w : List ℕ) : Type 0 where

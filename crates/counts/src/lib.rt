@@ -1,12 +1,10 @@
-// What is counted in a map: the cells of each rank, by floods over lent work room, and the free pairs.
+// What is counted in a map: the cells of each rank, by floods over lent work room.
 use rules::Session;
 ghost use mathlib.Core.Path.{_≡_};
 ghost use Prim.Native.Nat.{_+_, _*_, _≤_, _<_};
 ghost use lib.ListN.{length, drop};
-ghost use Rattle.rules.specs.Lists.{countBelow};
 ghost use Rattle.rules.specs.Map.{byDart, Limits, Valid};
-ghost use Rattle.rules.specs.Report.{cellCounts, freePairs};
-ghost use Rattle.counts.specs.Tests.{isFree};
+ghost use Rattle.rules.specs.Report.{cellCounts};
 
 // The number of cells of a rank: a flood from each dart that none before it reached, until the queue holds all darts.
 pub fn cells(tables: &[u16], work: &mut [u16], dim: usize, darts: usize, skip: usize) -> u32
@@ -45,35 +43,4 @@ pub fn cell_counts(tables: &[u16], work: &mut [u16], dim: usize, darts: usize, t
     }
     counts[dim] = top;
     counts
-}
-
-// The number of free pairs of one rank. A count and no way out of the loop let the compiler go over the darts without a
-// branch.
-pub fn free_at(tables: &[u16], dim: usize, darts: usize, rank: usize) -> u16
-    requires { ⌜ Limits dim darts (now tables) × (rank ≤ dim) ⌝ }
-    ensures { λ r. ⌜ r ≡ countBelow darts (λ d. isFree dim darts (now (tables .entry)) (rank * darts + d)) ⌝ }
-{
-    let mut free: u16 = 0;
-    let mut d = 0;
-    while d < darts {
-        if tables[tables::place(dim, darts, rank, d)] == d as u16 {
-            free += 1;
-        }
-        d += 1;
-    }
-    free
-}
-
-// The number of free (rank, dart) pairs.
-pub fn free_pairs(tables: &[u16], dim: usize, darts: usize) -> u32
-    requires { ⌜ Limits dim darts (now tables) ⌝ }
-    ensures { λ r. ⌜ r ≡ freePairs byDart dim darts (now (tables .entry)) ⌝ }
-{
-    let mut free: u32 = 0;
-    let mut rank = 0;
-    while rank <= dim {
-        free += free_at(tables, dim, darts, rank) as u32;
-        rank += 1;
-    }
-    free
 }

@@ -1,5 +1,5 @@
 -- Laws of the two classes: where all darts are reached from dart 0 each has one, by the number of links, and if any two classes do, these do: exactly if
--- the links that stay within a class are those that stay in place. Rests on the flood's Floods, the counts' Counts and the rules' Orbits and Cells.
+-- the links that stay within a class are those that stay in place. Rests on the flood's Floods and the rules' Orbits and Cells.
 use Prim.Native.Nat.{ℕ, zero, suc, _+_, _*_, _-_, _/_, _%_, _≤_, _<_}
 use mathlib.Core.Path.{_≡_, refl, ap, sym, _∙_}
 use mathlib.Core.Logic.{_≢_}
@@ -10,19 +10,16 @@ use lib.ListN.{getD}
 use lib.Dec.{eqb}
 use borrow.Author.Tests.{eqb-true, eqb-false, eq-eqb, ne-eqb, not-true}
 use Rattle.rules.specs.Lists.{someBelow, countBelow}
-use Rattle.rules.specs.Map.{byDart, size, place, link, allRanks, Valid, Limits}
+use Rattle.rules.specs.Map.{byDart, size, link, allRanks, Valid}
 use Rattle.rules.specs.Report.{freePairs, orientable}
 use Rattle.rules.proofs.Lists.{and-left, and-right, not-both, some-below, below-some}
 use Rattle.rules.proofs.Places.{nth-rank, nth-dart, nth-below, rank-nth, dart-nth}
 use Rattle.rules.proofs.Orbits.{valid-closed, reached-below, count-wider}
 use Rattle.rules.proofs.Cells.{Orientable, orientable-sound, orientable-complete}
-use Rattle.tables.proofs.Laws.{entry-link}
 use Rattle.flood.specs.Flood.{Linked}
 use Rattle.flood.proofs.Floods.{linked-two, linked-reached}
-use Rattle.counts.specs.Tests.{isFree}
-use Rattle.counts.proofs.Counts.{count-yes, count-no}
 use Rattle.report.specs.Spans.{Spanned, AllMarked}
-use Rattle.report.specs.Tests.{alike}
+use Rattle.report.specs.Tests.{alike, isFree}
 
 -- the class that a dart has by the number of links from a dart of class b
 turn : ℕ → Bool → Bool
@@ -48,27 +45,6 @@ other-one (suc zero) (suc zero) h k e = absurd (e refl)
 other-one zero (suc (suc b)) h k e = absurd (omega arith)
 other-one (suc zero) (suc (suc b)) h k e = absurd (omega arith)
 other-one (suc (suc a)) b h k e = absurd (omega arith)
-
--- the test of the code, x being the entry that it read
-module _ (N n : ℕ) (t w : List ℕ) (i d x : ℕ) (L : Limits N n t) (hi : i ≤ N) (hd : d < n) (e : x ≡ getD t (place byDart N n i d) 0) where
-  entry-link-at : x ≡ link byDart N n t i d
-  entry-link-at = e ∙ entry-link N n t i d L hi hd
-
-  pub entry-below : Valid byDart N n t → x < n
-  entry-below v = rw entry-link-at (v .inside i d hi hd)
-
-  abbrev ranked : ℕ → Bool
-  ranked d = alike N n t w (i * n + d)
-
-  alike-test : ranked d ≡ eqb (getD w d 0) (getD w x 0)
-  unfolding alike
-  alike-test = rw (rank-nth n i d hd, dart-nth n i d hd, entry-link-at)
-
-  pub alike-yes : (c : ℕ) → getD w d 0 ≡ getD w x 0 → c ≡ countBelow d ranked → c + 1 ≡ countBelow (d + 1) ranked
-  alike-yes c h = count-yes ranked d c (alike-test ∙ eq-eqb (getD w d 0) (getD w x 0) h)
-
-  pub alike-no : (c : ℕ) → getD w d 0 ≢ getD w x 0 → c ≡ countBelow d ranked → c ≡ countBelow (d + 1) ranked
-  alike-no c h = count-no ranked d c (alike-test ∙ ne-eqb (getD w d 0) (getD w x 0) h)
 
 -- any classes that do agree with the numbers of links from a dart of class 0
 linked-class : {keep : ℕ → Bool} {N n : ℕ} {t : List ℕ} {s d m : ℕ} (v : Valid byDart N n t) (O : Orientable byDart N n t) → s < n

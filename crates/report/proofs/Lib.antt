@@ -1,3 +1,4 @@
 pub mod Spans
+pub mod Tallies
 pub mod Classes
 pub mod Answers

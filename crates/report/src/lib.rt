@@ -4,13 +4,12 @@ use rules::Session;
 ghost use mathlib.Core.Path.{_≡_};
 ghost use Prim.Native.Nat.{_+_, _*_, _≤_, _<_};
 ghost use lib.ListN.{length, drop};
-ghost use Rattle.rules.specs.Lists.{countBelow};
 ghost use Rattle.rules.specs.Map.{byDart, Limits, Valid, size, blank};
 ghost use Rattle.rules.specs.Report.{reportAnswer, reportWork};
 ghost use Rattle.flood.specs.Flood.{Queue};
 ghost use Rattle.report.specs.Answer.{refusalOf, countedOf};
 ghost use Rattle.report.specs.Spans.{Spun, Spanned, AllMarked};
-ghost use Rattle.report.specs.Tests.{alike};
+ghost use Rattle.report.specs.Tests.{Counted};
 
 // Where the marking of all that is reached from dart 0 stands: the queue's length and how many N-cells are marked.
 pub struct Spanning {
@@ -18,38 +17,54 @@ pub struct Spanning {
     pub cells: u32,
 }
 
-// The number of links of one rank that stay within a class. A count and no way out of the loop let the compiler go over
-// them without a branch.
-pub fn alike_at(tables: &[u16], work: &[u16], dim: usize, darts: usize, rank: usize) -> u16
+// How many links stay within a class, and how many of these stay in place: the free pairs.
+pub struct Tally {
+    pub alike: u32,
+    pub free: u32,
+}
+
+// The links of one rank are put to the tally of the ranks below. Counts and no way out of the loop let the compiler go
+// over them without a branch.
+pub fn tally_at(
+    tables: &[u16],
+    work: &[u16],
+    dim: usize,
+    darts: usize,
+    rank: usize,
+    below: Tally,
+) -> Tally
     requires { ⌜ Limits dim darts (now tables) × Valid byDart dim darts (now tables) × (darts ≤ length (now work))
-        × (rank ≤ dim) ⌝ }
-    ensures { λ r. ⌜ r
-        ≡ countBelow darts (λ d. alike dim darts (now (tables .entry)) (now (work .entry)) (rank * darts + d)) ⌝ }
+        × (rank ≤ dim) × Counted dim darts (now tables) (now work) (rank * darts) below ⌝ }
+    ensures { λ r. ⌜ Counted dim darts (now (tables .entry)) (now (work .entry)) ((rank + 1) * darts) r ⌝ }
 {
-    let mut alike: u16 = 0;
+    let mut alike = below.alike;
+    let mut free = below.free;
     let mut d = 0;
     while d < darts {
         let x = tables[tables::place(dim, darts, rank, d)] as usize;
+        if x == d {
+            free += 1;
+        }
         if work[d] == work[x] {
             alike += 1;
         }
         d += 1;
     }
-    alike
+    Tally { alike, free }
 }
 
-// The number of links that stay within a class.
-pub fn links_alike(tables: &[u16], work: &[u16], dim: usize, darts: usize) -> u32
+// Of all links, in one pass.
+pub fn tally_all(tables: &[u16], work: &[u16], dim: usize, darts: usize) -> Tally
     requires { ⌜ Limits dim darts (now tables) × Valid byDart dim darts (now tables) × (darts ≤ length (now work)) ⌝ }
-    ensures { λ r. ⌜ r ≡ countBelow (size dim darts) (alike dim darts (now (tables .entry)) (now (work .entry))) ⌝ }
+    ensures { λ r. ⌜ Counted dim darts (now (tables .entry)) (now (work .entry)) (size dim darts) r ⌝ }
 {
-    let mut alike: u32 = 0;
+    let mut t = Tally { alike: 0, free: 0 };
     let mut rank = 0;
     while rank <= dim {
-        alike += alike_at(tables, work, dim, darts, rank) as u32;
+        t = tally_at(tables, work, dim, darts, rank, t);
         rank += 1;
     }
-    alike
+    t
 }
 
 // The dart of the queue at `head`: where its aN has no mark, an N-cell begins there, and a flood by all other ranks
@@ -124,16 +139,15 @@ pub fn counted(tables: &[u16], work: &mut [u16], dim: usize, darts: usize, top: 
     ensures { λ r. ⌜ (r ≡ countedOf dim darts (now (tables .entry)))
         × (now (work .exit) ≡ blank (2 * darts) (now (work .entry))) ⌝ }
 {
-    let alike = links_alike(tables, work, dim, darts);
+    let t = tally_all(tables, work, dim, darts);
     let cells = counts::cell_counts(tables, work, dim, darts, top);
-    let free = counts::free_pairs(tables, dim, darts);
     tables::blank(work, 2 * darts);
     ReportAnswer {
         number: 0,
         place: 0,
         cells,
-        free,
-        orientable: alike == free,
+        free: t.free,
+        orientable: t.alike == t.free,
     }
 }
 

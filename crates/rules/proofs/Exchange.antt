@@ -3,24 +3,22 @@
 -- to Z = byDart, the new ones, and back. Rests on Layouts, Casts, Follows, Past and Fetch.
 use Prim.Native.Nat.{ℕ, _+_, _-_, _≤_, _<_}
 use mathlib.Core.Path.{_≡_, refl, ap, sym, _∙_}
-use mathlib.Core.Bool.{Bool, true, false, not}
-use mathlib.Core.List.{List, [], _∷_, _++_}
+use mathlib.Core.Bool.{Bool, true, false}
+use mathlib.Core.List.{List, []}
 use native.Mathlib.Omega.{arith}
 use native.Mathlib.Decide.{decLe}
 use lib.ListN.{length, getD, drop, length-drop}
 use lib.Seq.{ext-getD, getD-drop}
-use lib.Dec.{ltb, leb}
+use lib.Dec.{ltb}
 use borrow.Author.Tests.{lt-ltb}
 use Rattle.rules.specs.declared.Session.{Session}
-use Rattle.rules.specs.declared.ReadAnswer.{ReadAnswer}
-use Rattle.rules.specs.declared.PageAnswer.{PageAnswer}
-use Rattle.rules.specs.Map.{Layout, mark, dimFits, dartsFit, size, place, link, Valid}
+use Rattle.rules.specs.Map.{Layout, mark, dimFits, dartsFit, size, place, Valid}
 use Rattle.rules.specs.Refusals.{among}
 use Rattle.rules.specs.Check.{Verdict, refuseIf, verdict, checkAnswer, checkWork}
 use Rattle.rules.specs.Writing.{stream, pageOf, writeAnswer, writeOut, writeWork}
 use Rattle.rules.specs.Stream.{unpack}
-use Rattle.rules.specs.Reading.{Reading, readingOf, answerOf, tablesOf, readAnswer, readTables}
-use Rattle.rules.specs.Session.{store, fit, Left, leaves, page, close, recordFor, tablesFor}
+use Rattle.rules.specs.Reading.{readingOf, answerOf, tablesOf, readAnswer, readTables}
+use Rattle.rules.specs.Session.{store, fit, Left, leaves, close, recordFor, tablesFor}
 use Rattle.rules.specs.Fetch.{fetchOf, PageLeft, fetching, pageCall}
 use Rattle.rules.specs.Report.{reportAnswer, reportWork}
 use Rattle.rules.specs.Exchange.{refusalPlace, exchanged, movedVerdict, movedCheck, movedWrite, movedReport}
@@ -29,7 +27,7 @@ use Rattle.rules.proofs.Renamed.{SameMap, same-links}
 use Rattle.rules.proofs.Layouts.{moved-place, length-exchanged, entry-exchanged, past-exchanged, link-exchanged, exchanged-back}
 use Rattle.rules.proofs.Casts.{exchange-casts}
 use Rattle.rules.proofs.Follows.{stream-renamed}
-use Rattle.rules.proofs.Past.{refuse-moved, refused-check, refused-write, refused-report, check-links, write-links, report-links, headerSizes, CastsFor}
+use Rattle.rules.proofs.Past.{refused-check, refused-write, refused-report, check-links, write-links, report-links, headerSizes, CastsFor}
 use Rattle.rules.proofs.Past.{readingCast, leftCast, reading-carried, leaves-carried, read-carried, sizes, fit-carried, page-carried, close-carried}
 use Rattle.rules.proofs.Sessions.{whole}
 use Rattle.rules.proofs.Fetch.{pages, opening, sofar, pages-are, pages-read}

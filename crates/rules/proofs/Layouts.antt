@@ -1,19 +1,18 @@
 -- Laws of `exchanged`: the positions of two layouts go to each other one-to-one, what is past the (N+1)·n entries stays, the exchange and its way back are
 -- inverse, the links stay, and storing a link and blanking go along. Rests on Lists and Places.
-use Prim.Native.Nat.{ℕ, _+_, _-_, _≤_, _<_}
-use mathlib.Core.Path.{_≡_, refl, ap, sym, _∙_}
+use Prim.Native.Nat.{ℕ, _-_, _≤_, _<_}
+use mathlib.Core.Path.{_≡_, ap, sym, _∙_}
 use mathlib.Core.Logic.{_≢_}
-use mathlib.Core.List.{List, _++_}
+use mathlib.Core.List.{List}
 use native.Mathlib.Omega.{arith}
 use native.Mathlib.Decide.{ℕ-discrete, decLt}
-use lib.ListN.{length, getD, set, replicate, drop, length-set}
+use lib.ListN.{length, getD, set, length-set}
 use lib.Seq.{ext-getD, getD-set-same, getD-set-other}
-use lib.Dec.{ltb}
 use borrow.Author.Tests.{lt-ltb, le-ltb}
 use Rattle.rules.specs.Lists.{listOf}
 use Rattle.rules.specs.Map.{Layout, mark, size, place, link, blank}
 use Rattle.rules.specs.Exchange.{rankAt, dartAt, movedPlace, exchanged}
-use Rattle.rules.proofs.Lists.{getD-listOf, length-listOf, getD-any}
+use Rattle.rules.proofs.Lists.{getD-listOf, length-listOf}
 use Rattle.rules.proofs.Places.{rank-place, dart-place, place-below, rank-at, dart-at, place-at, link-entry, link-none, getD-blank, getD-past}
 use Rattle.rules.proofs.Places.{blank-long}
 

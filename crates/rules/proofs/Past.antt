@@ -2,15 +2,15 @@
 -- allowed, and what is past (N+1)·n is neither read nor written": tables with the same (N+1)·n entries have the same links, and what is past them stays.
 -- The same holds of tables in another layout, with each link at its own place there. Rests on Follows for the calls that only read the tables, on Sessions and
 -- Casts for the others.
-use Prim.Native.Nat.{ℕ, zero, suc, _+_, _*_, _/_, _%_, _≤_, _<_}
+use Prim.Native.Nat.{ℕ, zero, suc, _+_, _/_, _%_, _≤_, _<_}
 use mathlib.Core.Path.{_≡_, refl, ap, sym, _∙_}
 use mathlib.Core.Logic.{_⊎_, inl, inr}
-use mathlib.Core.Bool.{Bool, true, false, not, _&&_, _||_, cond}
+use mathlib.Core.Bool.{Bool, true, false, _&&_, _||_, cond}
 use mathlib.Core.List.{List, [], _∷_, _++_, append-assoc, append-cancel-right}
 use native.Mathlib.Omega.{arith}
 use native.Mathlib.Decide.{decLe}
 use lib.ListN.{length, getD, take, drop, length-append, length-take, take-append-drop}
-use lib.Seq.{take-all, getD-take, length-take-le, take-append-le, drop-append-le}
+use lib.Seq.{take-all, getD-take, length-take-le, drop-append-le}
 use lib.Dec.{eqb, ltb, leb}
 use borrow.Author.Tests.{not-false, ltb-true, leb-true, le-ltb, le-leb}
 use Rattle.rules.specs.declared.Pair.{Pair}

@@ -14,7 +14,7 @@ use lib.Seq.{ext-getD, getD-take, length-take-le}
 use lib.Dec.{eqb}
 use borrow.Author.Tests.{eqb-true, eq-eqb, ne-eqb}
 use Rattle.rules.specs.Lists.{first}
-use Rattle.rules.specs.Map.{Layout, mark, size, place, link, Reached, Valid, Connected}
+use Rattle.rules.specs.Map.{Layout, mark, size, link, Reached, Valid, Connected}
 use Rattle.rules.proofs.Lists.{not-both, first-passes, first-before, getD-any, pigeonhole}
 use Rattle.rules.specs.Exchange.{rankAt, dartAt}
 use Rattle.rules.proofs.Places.{rank-at, dart-at, place-at, link-entry, link-none, Alike, link-alike}
