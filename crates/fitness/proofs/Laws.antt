@@ -6,7 +6,7 @@ use mathlib.Core.Logic.{_≢_}
 use mathlib.Core.Bool.{Bool, true, false, not, _&&_, _||_}
 use mathlib.Core.List.{List, _∷_}
 use native.Mathlib.Omega.{arith}
-use native.Mathlib.Nat.{div-lt-iff-lt-mul, pow-suc, mul-le-mul, mul-zero, mul-comm, div-eq-of-lt-le}
+use native.Mathlib.Nat.{div-lt-iff-lt-mul, pow-suc, mul-le-mul, mul-zero, div-eq-of-lt-le}
 use native.Mathlib.Decide.{ℕ-discrete, decLt}
 use lib.ListN.{length, getD}
 use lib.Dec.{eqb, ltb, leb}
@@ -26,9 +26,9 @@ use Rattle.rules.specs.Refusals.{among, atHeader, ofIndex, inStep, atEnd, wipes
 use Rattle.rules.specs.Session.{walkAt, standOf, walkOf, waitingOf, valueFits, onlyBits, positionsFit, entryFits, entriesFit, walkFits, asks, begins}
 use Rattle.rules.specs.Session.{allDone, fitAs, fit}
 use Rattle.rules.proofs.Lists.{and-left, and-right, both, or-left, or-right, all-below, below-all, PassedSoFar, unless}
-use Rattle.rules.proofs.Places.{nth-some, nth-rank, nth-dart, nth-below, rank-nth, dart-nth, dart-place, rank-at, place-at}
+use Rattle.rules.proofs.Places.{nth-some, nth-rank, nth-dart, nth-below, rank-nth, dart-nth, dart-place, rank-at, place-at, dart-before, before-dart}
 use Rattle.rules.proofs.Codes.{length-bits}
-use Rattle.tables.proofs.Laws.{entry-link}
+use Rattle.tables.proofs.Laws.{entry-link, rows-few}
 use Rattle.rules.specs.Inner.{Shape}
 use Rattle.rules.proofs.Fitness.{fits-inv}
 use Rattle.fitness.specs.Parts.{fallsAt, isAt, overAt, entryBy, entryOf, entryAt, allWithin, knownAt, openAt, blankAt, linkedAt, passedAt, asksAt}
@@ -178,16 +178,7 @@ within-all : (f : ℕ → Bool) (a b : ℕ) → ((k : ℕ) → a ≤ k → k < b
 unfolding allWithin
 within-all f a b h = below-all (b - a) (λ x. f (a + x)) (λ x l. h (a + x) (omega arith) (omega arith))
 
--- the darts before p have the first (N+1)·p positions
-dart-before : (N n k p : ℕ) → dartAt byDart N n k < p → k < (N + 1) * p
-unfolding dartAt
-dart-before N n k p h = rw (mul-comm (N + 1) p, add-one) (div-lt-iff-lt-mul {k = suc N} (omega arith) .0 h)
-
-before-dart : (N n k p : ℕ) → k < (N + 1) * p → dartAt byDart N n k < p
-unfolding dartAt
-before-dart N n k p h = div-lt-iff-lt-mul {k = suc N} (omega arith) .1 (rw (mul-comm (N + 1) p, add-one) at h)
-
--- so a test of the entries in a run of positions is one of the links of a run of darts, from p up to q
+-- the darts before p have the first (N+1)·p positions, so a test of the entries in a run of positions is one of the links of a run of darts, from p up to q
 module _ (N n : ℕ) (t : List ℕ) (L : Limits N n t) (g : ℕ → Bool) (p q : ℕ) (hq : q ≤ n) where
   abbrev from : ℕ
   from = (N + 1) * p
@@ -243,7 +234,7 @@ module _ (c p d x : ℕ) where
 
 -- a map has few entries
 pub few-entries : (N n : ℕ) → N ≤ 6 → n ≤ 4096 → (N + 1) * n ≤ 28672
-few-entries N n h k = mul-le-mul {n₁ = N + 1} {m₁ = n} {n₂ = 7} {m₂ = 4096} (omega arith) k
+few-entries N n h k = rows-few N n (N + 1) h k (omega arith)
 
 -- where three runs of entries end: of the darts before the last position, of those before the count, and of all
 pub record Runs (N n c last : ℕ) : Type 0 where
