@@ -35,7 +35,8 @@ few k =
     let a = entry k .args in
     let p = entry k .pre in
     let (x, y) = counted-le (k .before .before .loop .inv .1) in
-    let b : a .rank * a .darts ≤ 6 * 4096 = mul-le-mul {n₁ = a .rank} {m₁ = a .darts} {n₂ = 6} {m₂ = 4096} (omega (arith, p .3, p .0 .dims .1)) (p .0 .darts .1) in
+    let r : a .rank ≤ 6 = omega (arith, p .3, p .0 .dims .1) in
+    let b : a .rank * a .darts ≤ 6 * 4096 = mul-le-mul {n₁ = a .rank} {m₁ = a .darts} {n₂ = 6} {m₂ = 4096} r (p .0 .darts .1) in
     (omega (arith, x, p .0 .darts .1), omega (arith, y, p .0 .darts .1))
 
 loop-holds : tie.Need-loop-holds Inv-loop μ-loop
