@@ -6,6 +6,7 @@
  * free at rank i. In tables that are being read, KZ_NO_LINK says "no link yet".
  *
  *   kz_check    are these posted tables a valid connected map? numbers the darts from a root
+ *   kz_faces    tables of dimension 2 from a face file (OFF text)
  *   kz_write    any page of a map's stream, from any root
  *   kz_read     tables from one whole stream
  *   kz_open, kz_page, kz_close      the same, fed page by page through a session
@@ -19,9 +20,10 @@
  * What the caller guarantees, since no proof can see across the call:
  *   - each pointer is not null, is aligned for its type and points to as many elements as its length says, or as the
  *     array's size says; with length 0 nothing is read or written through it;
- *   - a room that the call may write (work, out, record, answer, and the tables of a reading) overlaps no other
- *     argument, and no other thread touches it during the call; a room that the call only reads is not written during
- *     the call.
+ *   - a room that the call may write (work, out, record, answer, and the tables of kz_faces and of a reading) overlaps
+ *     no other argument, and no other thread touches it during the call; a room that the call only reads is not written
+ *     during the call;
+ *   - there is stack enough: kz_faces needs some 64 KiB of stack, every other call little.
  *
  * Link with libkanzhulet.a, as `pkg-config --cflags --libs kanzhulet` says. The library is for x86-64 Linux. It needs
  * one function from outside, memset, which every C library has; a program linked without one has to bring its own.
@@ -37,7 +39,7 @@ extern "C" {
 #endif
 
 /* The library's version, as pkg-config and the Rust wrapper give it too. */
-#define KZ_VERSION "0.7.0"
+#define KZ_VERSION "0.8.0"
 
 /* The limits, and the rooms that are long enough for every map. */
 enum {
@@ -52,6 +54,7 @@ enum {
 /* Numbers in an answer or a record. */
 enum {
     KZ_CHECK_ANSWER = 2,
+    KZ_FACES_ANSWER = 3, /* of 64 bits each; all others have 32 */
     KZ_WRITE_ANSWER = 4,
     KZ_READ_ANSWER = 5,
     KZ_PAGE_ANSWER = 6,
@@ -88,7 +91,12 @@ enum {
     KZ_CLOSED = 20,       /* the session is closed                              0 */
     KZ_NOT_NUMBERED = 21, /* a named dart has no number yet                     steps done */
     KZ_ITSELF = 22,       /* a named dart is the dart itself                    steps done */
-    KZ_LINKED = 23        /* a named dart has a link at this rank already       steps done */
+    KZ_LINKED = 23,       /* a named dart has a link at this rank already       steps done */
+    /* 24 and 25 are no refusal's */
+    KZ_WORD = 26,         /* a word or number malformed or missing              its first byte, or the text's length */
+    KZ_VERTEX = 27,       /* a vertex number too large                          the face's number, from 0 */
+    KZ_FACE = 28,         /* under three corners, or two equal neighbours       the face's number, from 0 */
+    KZ_SIDE = 29          /* a side used a third time                           the face's number, from 0 */
 };
 
 /*
@@ -107,6 +115,40 @@ uint32_t kz_check(uint64_t dim, uint64_t darts, uint64_t root,
                   const uint16_t *tables, size_t tables_length,
                   uint16_t *work, size_t work_length,
                   uint32_t answer[KZ_CHECK_ANSWER]);
+
+/*
+ * Posting from a face file: an OFF text is read into the tables of a map of dimension 2, which is checked from root 0.
+ *
+ * The text is the word OFF; three numbers, how many vertices, faces and edges there are; for each vertex three words;
+ * for each face a number, how many corners it has, and their vertex numbers, counted from 0.
+ *   - Blanks are space, tab, CR and LF; a word is what stands between them. A number is a word of one to nine digits.
+ *   - # starts a comment, within a word too, and it goes on to the line's end. Lines end at LF.
+ *   - The words of a vertex are passed over, whatever they are and whatever lines they stand on. So are the rest of the
+ *     line after a face's last corner and all that follows the last face. The edge count is not held to anything.
+ * Corners are numbered over all faces in file order, from 0. Corner c is at its own vertex, and its side leads to the
+ * next corner of its face, from the last one to the first. It gives two darts: 2c at its own vertex, 2c+1 at that of
+ * the next corner. a0 joins these two; a1 joins 2c+1 to the first dart of the next corner; a2 joins two sides that have
+ * the same two vertices, each end to the one at the same vertex, and a side that has no such other is free.
+ *
+ * answer: number, place, n. On a refusal n is 0, on 9 too. The numbers have 64 bits: a text may be longer than 4 GiB.
+ * Order of tests: 26 over the whole text; then face by face 27 (a vertex number not below the vertex count), 28 (fewer
+ *         than three corners, or two neighbours with one vertex, last and first included), 29 (a side that two corners
+ *         before have already); then 2 (no faces, or more than 4,096 darts, which are 2,048 corners), 3, 4, 9. 6, 7 and
+ *         8 are never given: a map so built is valid.
+ * text:   any length. Never written.
+ * tables: at least 3n entries; what is past them is neither read nor written.
+ *   0 and 9  the first 3n are the map's
+ *   else     unchanged
+ * work:   at least 2n entries; what is past them is neither read nor written.
+ *   0        as after kz_check with root 0: each dart's walk number, then the dart of each walk number
+ *   9        the first 2n are KZ_NO_LINK
+ *   else     unchanged
+ * Sides are kept in a table on the stack: the call needs some 64 KiB of stack.
+ */
+uint32_t kz_faces(const uint8_t *text, size_t text_length,
+                  uint16_t *tables, size_t tables_length,
+                  uint16_t *work, size_t work_length,
+                  uint64_t answer[KZ_FACES_ANSWER]);
 
 /*
  * The paged writer: the bytes of the map's stream from byte `start` on, as many as `out` holds or the stream has.

@@ -8,6 +8,8 @@
  * One line a measurement:
  *
  *   CALL N n MAP ratio R           the time of the library's call over the reference's
+ *   faces 2 n TEXT ratio R         the same for a face file of n/2 corners; where n is above 4,096 it is refused by 2
+ *   faces TEXT/spread G            the library's time for sides that fall into one slot over that for harmless ones
  *   cost CALL N MAP 4096/512 G     the library's cost of a step at n = 4,096 over that at 512, and the reference's
  *   longest ...                    the longest stream in pages of 64 bytes
  *
@@ -22,14 +24,16 @@
 #include "programs.h"
 #include <time.h>
 
-enum { CHECK_MAP, WRITE, WRITE_PAGES, READ, READ_PAGES, REPORT, CALLS };
-static const char *const call_names[CALLS] = { "check", "write", "write/1024", "read", "read/1024", "report" };
+/* The calls on a map; then the one on a face file. */
+enum { CHECK_MAP, WRITE, WRITE_PAGES, READ, READ_PAGES, REPORT, CALLS, FACES = CALLS };
+static const char *const call_names[] = { "check", "write", "write/1024", "read", "read/1024", "report", "faces" };
 
 enum { PAGE_SIZE = 1024, SMALL_PAGE = 64, LEAST_TURNS = 7, MOST_TURNS = 400 };
 static const double turns_last = 0.25e9; /* nanoseconds for one measurement, unless LEAST_TURNS take longer */
 
 /* The targets; the ratio's is for the greatest n. */
 static const double most_ratio = 1.0, most_growth = 1.3, most_paged = 4.0, no_target = 1e9;
+static const double most_accepted = 3.0, most_20000 = 8.0, most_50000 = 16.0, most_hostile = 2.0; /* face files */
 
 static int with_times;
 static unsigned measurements, missed;
@@ -41,7 +45,7 @@ static double now(void)
     return (double)t.tv_sec * 1e9 + (double)t.tv_nsec;
 }
 
-/* A map that is posted, and its stream from root 0. */
+/* A map that is posted, and its stream from root 0; or the map of the face file that is lent. */
 struct job {
     const char *name;
     struct map m;
@@ -79,6 +83,7 @@ static void make_call(int call, const struct program *p, struct side *s, const s
     case READ: p->read(stream, job->length, s->tables, job->entries, s->answer); break;
     case READ_PAGES: read_pages(p, s, job, PAGE_SIZE); break;
     case REPORT: p->report(dim, darts, posted, job->entries, s->work, 2 * darts, s->answer); break;
+    case FACES: p->faces(text, LENGTH(text), s->tables, 3 * KZ_MAX_DARTS, s->work, KZ_MAX_WORK, s->wide); break;
     }
 }
 
@@ -104,7 +109,7 @@ static void keep_least(double *least, double time)
 /* The shortest time of a call for each program. */
 static void measure(int call, const struct job *job, double time[PROGRAMS])
 {
-    unsigned turns, calls = (unsigned)(KZ_MAX_DARTS / job->m.darts);
+    unsigned turns, calls = job->m.darts < KZ_MAX_DARTS ? (unsigned)(KZ_MAX_DARTS / job->m.darts) : 1;
     double began = now();
     int k;
     time[LIBRARY] = time[REFERENCE] = 0;
@@ -181,6 +186,53 @@ static void bench_kind(const struct kind *kind)
     }
 }
 
+/* Face files. */
+
+/* The lent text, of so many corners and answered by this number, its ratio at most so much; the library's time. */
+static double bench_text(const char *name, uint64_t corners, uint32_t number, double most)
+{
+    struct job job = { name, { 2, 2 * corners }, 0, 0 };
+    double time[PROGRAMS];
+    map_name = name;
+    map_shape = job.m;
+    map_root = 0;
+    use_rooms(3 * KZ_MAX_DARTS, KZ_MAX_WORK, 0);
+    measure(FACES, &job, time);
+    if (sides[LIBRARY].wide[0] != number) {
+        printf("bench: the face file %s is answered by %u\n", name, (unsigned)sides[LIBRARY].wide[0]);
+        exit(1);
+    }
+    print_ratio("faces", &job, time, most);
+    return time[LIBRARY];
+}
+
+static void print_hostile(const char *name, double hostile, double spread)
+{
+    printf("faces %s/spread %.2f", name, hostile / spread);
+    against(hostile / spread, most_hostile);
+}
+
+/* Tori; then 20,000 corners spread over a table's slots, and as many that fall into one. */
+static void bench_faces(void)
+{
+    enum { VERTICES = 20000, FOLDED = 5000, CORNERS = 4 * FOLDED };
+    double spread, product, remainder;
+    lend_grid_text(32, 16, 1);
+    bench_text("torus", 4 * 32 * 16, KZ_ACCEPTED, most_accepted);
+    lend_grid_text(100, 50, 1);
+    bench_text("torus", 4 * 100 * 50, KZ_DARTS, most_20000);
+    lend_grid_text(125, 100, 1);
+    bench_text("torus", 4 * 125 * 100, KZ_DARTS, most_50000);
+    lend_spread(VERTICES, FOLDED);
+    spread = bench_text("spread", CORNERS, KZ_DARTS, no_target);
+    lend_one_slot(VERTICES, FOLDED, slot_by_product);
+    product = bench_text("slot-by-product", CORNERS, KZ_DARTS, no_target);
+    lend_one_slot(VERTICES, FOLDED, slot_by_remainder);
+    remainder = bench_text("slot-by-remainder", CORNERS, KZ_DARTS, no_target);
+    print_hostile("slot-by-product", product, spread);
+    print_hostile("slot-by-remainder", remainder, spread);
+}
+
 /* The longest stream. */
 
 /* The time that the pages of a session and its end take to find the session fit: before each of them an empty page is
@@ -253,6 +305,7 @@ int main(int count, char **words)
         for (k = 0; k < KINDS; k++)
             if (kinds[k].post == pairs_of)
                 bench_longest(&kinds[k]);
+        bench_faces();
         printf("bench: %u measurements, %u above their target\n", measurements, missed);
     }
     printf("bench: %lu comparisons, no difference\n", comparisons);

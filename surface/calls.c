@@ -6,6 +6,7 @@
 #include "kanzhulet.h"
 #include "rooms.h"
 #include "maps.h"
+#include "face_files.h"
 #include <string.h>
 
 #define MOST (~(uint64_t)0)
@@ -390,6 +391,8 @@ static const struct lent unfit[] = {
     { "refused by 20", { 4, 20, 0 }, 0, { 0 } },
     { "refused by 24", { 4, 24, 0 }, 0, { 0 } },
     { "refused by 25", { 4, 25, 0 }, 0, { 0 } },
+    { "refused by 26", { 4, 26, 0 }, 0, { 0 } },
+    { "refused by 29", { 4, 29, 0 }, 0, { 0 } },
     { "running in dimension 0", { 1, 0, 0, 0, 2, 1 }, 4, { NO, NO, NO, NO } },
     { "running in dimension 7", { 1, 0, 0, 7, 2, 1 }, 4, { NO, NO, NO, NO } },
     { "running without darts", { 1, 0, 0, 1, 0, 1 }, 4, { NO, NO, NO, NO } },
@@ -942,6 +945,312 @@ static void samples_there_and_back(void)
         sample_there_and_back(&samples[k]);
 }
 
+/* Face files. */
+
+/* Rooms for a map of dimension 2 with so many darts, and SPARE entries more. */
+static void lend_rooms_for(uint64_t darts)
+{
+    LEND(posted, 3 * darts + SPARE);
+    LEND(work, 2 * darts + SPARE);
+}
+
+struct face_file {
+    const char *name, *text;
+    uint32_t number;
+    uint64_t place, darts; /* darts: of 9 too, which does not tell them */
+};
+
+/* The text before the faces, for three vertices and for five. */
+#define THREE(faces) "OFF 3 " faces " 0\n0 0 0\n1 0 0\n0 1 0\n"
+#define FIVE(faces) "OFF 5 " faces " 0 a b c d e f g h i j k l m n o\n"
+
+static const struct face_file face_files[] = {
+    /* Words, numbers, blanks and comments. */
+    { "a triangle", THREE("1") "3 0 1 2", 0, 0, 6 },
+    { "# within a word", "OFF 3 1 0 a b c d e f g h i 3#x\n0 1 2", 0, 0, 6 },
+    { "blanks and comments", "#\n\r\n\tOFF#FF\n3\t1\r9 # 9\n0 0 0\n\n1 0\n0 #\n0 1\r\n0\n3\t0 # 9\n1\n2", 0, 0, 6 },
+    { "nine digits", "OFF 000000003 000000001 999999999 a b c d e f g h i 03 00 000000001 2", 0, 0, 6 },
+    { "any bytes in a vertex's words", "OFF 3 1 0 \v \xFF \x80 OFF - 1e9 nan .. 0x 3 0 1 2", 0, 0, 6 },
+    { "no text", "", 26, 0, 0 },
+    { "blanks alone", " \t\r\n", 26, 4, 0 },
+    { "a comment alone", "# OFF 3 1 0", 26, 11, 0 },
+    { "OFFX", "OFFX 3 1 0", 26, 0, 0 },
+    { "off", "\n off", 26, 2, 0 },
+    { "OF", "OF F", 26, 0, 0 },
+    { "a form feed before OFF", "\fOFF 3 1 0", 26, 0, 0 },
+    { "OFF alone", "OFF", 26, 3, 0 },
+    { "no edge count", "OFF 3 1 # 0\n", 26, 12, 0 },
+    { "3x", "OFF 3x 1 0", 26, 4, 0 },
+    { "+3", "OFF 3 +3 0", 26, 6, 0 },
+    { "3.0", "OFF 3 1 3.0", 26, 8, 0 },
+    { "ten digits", "OFF 3 1 0 a b c d e f g h i 3 0 1 0000000002", 26, 34, 0 },
+    /* Vertices are words, and not lines. */
+    { "a fourth word on a vertex line", "OFF 3 1 0\n0 0 0 9\n1 0 0 9\n0 1 0 9\n3 0 1 2", 28, 0, 0 },
+    { "vertices across lines", "OFF 3 1 0\n0\n0 0 1 0\n0 0 1 0\n3 0 1 2", 0, 0, 6 },
+    { "a vertex word missing", "OFF 1 0 0 a b", 26, 13, 0 },
+    { "a vertex word in a comment", "OFF 1 0 0 a b # c\n", 26, 18, 0 },
+    { "more vertices than there can be", "OFF 999999999 1 0 3 0 1 2", 26, 25, 0 },
+    /* A face has the rest of its line to itself. */
+    { "the rest of a line, and what follows", THREE("1") "3 0 1 2 1 2 x # y\n3 0 1", 0, 0, 6 },
+    { "two faces on one line", THREE("2") "3 0 1 2 3 0 2 1", 26, 43, 0 },
+    { "two faces on two lines", THREE("2") "3 0 1 2 3 0 2\n3 0 2 1\n", 0, 0, 12 },
+    { "CR ends no line", THREE("2") "3 0 1 2\r3 0 2 1", 26, 43, 0 },
+    { "0 corners, and the rest of the line", THREE("2") "0 junk\n3 0 1 2", 28, 0, 0 },
+    { "a face missing", THREE("2") "3 0 1 2\n ", 26, 37, 0 },
+    { "a corner missing", THREE("1") "3 0 1", 26, 33, 0 },
+    { "a corner malformed", THREE("1") "3 0 1 -2", 26, 34, 0 },
+    { "more faces than there can be", THREE("999999999") "3 0 1 2\n", 26, 44, 0 },
+    { "more corners than there can be", THREE("1") "999999999 0 1 2\n", 26, 44, 0 },
+    /* 26 anywhere comes before all others; then the first face that is refused, and of its faults 27, 28, 29. */
+    { "26 in a later face", THREE("2") "2 0 9\n3 0 1 x", 26, 40, 0 },
+    { "27", THREE("1") "3 0 1 3", 27, 0, 0 },
+    { "27 in face 1", THREE("2") "3 0 1 2\n3 0 999999999 1", 27, 1, 0 },
+    { "27 without vertices", "OFF 0 1 0 3 0 1 2", 27, 0, 0 },
+    { "two corners", THREE("1") "2 0 1", 28, 0, 0 },
+    { "one corner", THREE("1") "1 0", 28, 0, 0 },
+    { "equal neighbours", THREE("1") "4 0 1 1 2", 28, 0, 0 },
+    { "last and first equal", THREE("2") "3 0 1 2\n4 1 2 0 1", 28, 1, 0 },
+    { "27 before 28", THREE("1") "2 0 9", 27, 0, 0 },
+    { "28 before 27 of a later face", THREE("2") "2 0 1\n3 0 1 9", 28, 0, 0 },
+    { "a side of three faces", FIVE("3") "3 0 1 2\n3 1 0 3\n3 0 1 4", 29, 2, 0 },
+    { "a side three times in one face", FIVE("1") "5 0 1 0 1 2", 29, 0, 0 },
+    { "a side once, then twice in one face", FIVE("2") "3 0 1 2\n6 0 1 3 1 0 4", 29, 1, 0 },
+    { "27 before 29", FIVE("3") "3 0 1 2\n3 1 0 3\n3 0 1 5", 27, 2, 0 },
+    { "28 before 29", FIVE("3") "3 0 1 2\n3 1 0 3\n4 0 1 4 0", 28, 2, 0 },
+    { "29 before 28 of a later face", FIVE("4") "3 0 1 2\n3 1 0 3\n3 0 1 4\n2 0 1", 29, 2, 0 },
+    /* Twice is well, in one face and in one direction too. */
+    { "sides twice in one face", THREE("1") "4 0 1 2 1", 0, 0, 8 },
+    { "a side twice in one direction", FIVE("2") "3 0 1 2\n3 0 1 3", 0, 0, 12 },
+    /* Then 2, and 9 at the end. */
+    { "nothing", "OFF 0 0 0", 2, 0, 0 },
+    { "no faces", THREE("0") "3 0 1 2", 2, 0, 0 },
+    { "two triangles that meet at a vertex", FIVE("2") "3 0 1 2\n3 0 3 4", 9, 6, 12 },
+    { "the second of three apart", "OFF 9 4 0 a b c d e f g h i j k l m n o p q r s t u v w x y z -\n"
+      "3 0 1 2\n3 3 4 5\n3 0 2 1\n3 6 7 8", 9, 6, 24 },
+};
+
+enum { FACE_FILES = sizeof face_files / sizeof face_files[0] };
+
+static uint16_t kept_work[2 * KZ_MAX_DARTS];
+
+/* What the tables hold after 0 and 9 is checked once more: the answer and the work room are the check's from root 0. */
+static void expect_as_checked(uint32_t number, uint64_t darts)
+{
+    struct map m = { 2, darts };
+    size_t k;
+    CHECK(darts_of_faces(number) == darts);
+    for (k = 0; k < 2 * darts; k++)
+        kept_work[k] = work[k];
+    EXPECT(call_check(m, 0), number, (uint32_t)wide[1]);
+    CHECK(same_entries(work, kept_work, 2 * darts));
+}
+
+static void read_each_face_file(void)
+{
+    size_t k;
+    for (k = 0; k < FACE_FILES; k++) {
+        const struct face_file *f = &face_files[k];
+        begin(f->name);
+        lend_text(f->text);
+        lend_rooms_for(f->darts);
+        EXPECT_FACES(f->number, f->place);
+        if (f->darts > 0)
+            expect_as_checked(f->number, f->darts);
+    }
+}
+
+static uint16_t wanted_tables[3 * KZ_MAX_DARTS];
+
+/* The tables of a posted map of dimension 2 are those that a text has to give. */
+static void want_posted(struct map m)
+{
+    size_t k;
+    for (k = 0; k < 3 * m.darts; k++)
+        wanted_tables[k] = posted[k];
+}
+
+static void expect_wanted(struct map m)
+{
+    lend_rooms_for(m.darts);
+    EXPECT_FACES(0, 0);
+    CHECK(wide[2] == m.darts && same_entries(posted, wanted_tables, 3 * m.darts));
+    expect_as_checked(0, m.darts);
+}
+
+/* The last one has as many darts as a map may have. */
+static void face_files_of_grids(void)
+{
+    static const struct grid {
+        uint32_t columns, rows;
+        int wrapped;
+    } grids[] = { { 1, 1, 0 }, { 3, 2, 0 }, { 1, 7, 0 }, { 3, 3, 1 }, { 5, 4, 1 }, { 32, 16, 1 } };
+    struct map m;
+    size_t k;
+    begin("face files of grids");
+    for (k = 0; k < sizeof grids / sizeof grids[0]; k++) {
+        m = post_grid(grids[k].columns, grids[k].rows, grids[k].wrapped);
+        want_posted(m);
+        lend_grid_text(grids[k].columns, grids[k].rows, grids[k].wrapped);
+        expect_wanted(m);
+    }
+}
+
+/* Squares, with what the report says of them, and their joined sides: two corners, and 1 if the sides of these run in
+   one direction. */
+struct squares_file {
+    struct sample map;
+    const char *text;
+    uint64_t squares, joins;
+    uint64_t joined[12][3];
+};
+
+static const struct squares_file squares_files[] = {
+    { { "cube", NULL, { 8, 12, 6 }, 0, 1 },
+      "OFF\n8 6 12\n0 0 0\n1 0 0\n1 1 0\n0 1 0\n0 0 1\n1 0 1\n1 1 1\n0 1 1\n"
+      "4 0 3 2 1\n4 4 5 6 7\n4 0 1 5 4\n4 1 2 6 5\n4 2 3 7 6\n4 3 0 4 7\n", 6, 12,
+      { { 0, 20 }, { 1, 16 }, { 2, 12 }, { 3, 8 }, { 4, 10 }, { 5, 14 }, { 6, 18 }, { 7, 22 }, { 9, 15 }, { 11, 21 },
+        { 13, 19 }, { 17, 23 } } },
+    { { "open box", NULL, { 8, 12, 5 }, 8, 1 },
+      "OFF\n8 5 12\n0 0 0\n1 0 0\n1 1 0\n0 1 0\n0 0 1\n1 0 1\n1 1 1\n0 1 1\n"
+      "4 0 3 2 1\n4 0 1 5 4\n4 1 2 6 5\n4 2 3 7 6\n4 3 0 4 7\n", 5, 8,
+      { { 0, 16 }, { 1, 12 }, { 2, 8 }, { 3, 4 }, { 5, 11 }, { 7, 17 }, { 9, 15 }, { 13, 19 } } },
+    { { "Moebius strip", NULL, { 6, 9, 3 }, 12, 0 },
+      "OFF 6 3 9 a b c d e f g h i j k l m n o p q r\n4 0 1 3 2\n4 2 3 5 4\n4 4 5 0 1\n", 3, 3,
+      { { 0, 10, 1 }, { 2, 4 }, { 6, 8 } } },
+    { { "half a cube, closed", NULL, { 4, 6, 3 }, 0, 0 },
+      "OFF 4 3 6 a b c d e f g h i j k l\n4 0 1 2 3\n4 0 1 3 2\n4 0 2 1 3\n", 3, 6,
+      { { 0, 4, 1 }, { 1, 9 }, { 2, 6 }, { 3, 11, 1 }, { 5, 10, 1 }, { 7, 8 } } },
+    { { "a square folded up", NULL, { 3, 2, 1 }, 0, 1 }, THREE("1") "4 0 1 2 1\n", 1, 2, { { 0, 3 }, { 1, 2 } } },
+};
+
+enum { SQUARES_FILES = sizeof squares_files / sizeof squares_files[0] };
+
+/* The squares as post_squares numbers their darts, which is as a file gives them, and their sides joined. */
+static struct map post_squares_of(const struct squares_file *f)
+{
+    struct map m = post_squares(f->squares);
+    uint64_t k;
+    for (k = 0; k < f->joins; k++) {
+        const uint64_t *side = f->joined[k];
+        tie(m, 2, 2 * side[0], 2 * side[1] + 1 - side[2]);
+        tie(m, 2, 2 * side[0] + 1, 2 * side[1] + side[2]);
+    }
+    return m;
+}
+
+/* From text to tables, to report and stream and back. */
+static void face_files_of_squares(void)
+{
+    struct map m;
+    size_t k;
+    for (k = 0; k < SQUARES_FILES; k++) {
+        begin(squares_files[k].map.name);
+        m = post_squares_of(&squares_files[k]);
+        want_posted(m);
+        lend_text(squares_files[k].text);
+        expect_wanted(m);
+        expect_report(&squares_files[k].map, m);
+        there_and_back(m, 0);
+    }
+}
+
+/* The cube's numbering from dart 0, and rooms that are as long as it needs or one entry short. What is short is told
+   after the faces and before 9, the tables first. */
+static void rooms_for_a_cube(void)
+{
+    static const uint16_t numbers[48] = {
+        0,  1,  4,  5,  7,  6,  3,  2,  42, 43, 46, 47, 45, 44, 41, 40, 16, 17, 20, 21, 23, 22, 19, 18,
+        32, 33, 36, 37, 39, 38, 35, 34, 25, 24, 26, 27, 30, 31, 29, 28, 9,  8,  10, 11, 14, 15, 13, 12,
+    };
+    static const struct lengths {
+        size_t tables, work;
+        uint32_t number;
+    } lengths[] = { { 143, 96, 3 }, { 144, 95, 4 }, { 143, 95, 3 }, { 0, 96, 3 }, { 144, 0, 4 }, { 0, 0, 3 } };
+    size_t k;
+    begin("rooms for a cube");
+    lend_text(squares_files[0].text);
+    LEND(posted, 144);
+    LEND(work, 96);
+    EXPECT_FACES(0, 0);
+    CHECK(wide[2] == 48 && same_entries(work, numbers, 48));
+    for (k = 0; k < sizeof lengths / sizeof lengths[0]; k++) {
+        LEND(posted, lengths[k].tables);
+        LEND(work, lengths[k].work);
+        EXPECT_FACES(lengths[k].number, 0);
+    }
+    lend_text(THREE("2") "3 0 1 2\n3 0 1 3");
+    EXPECT_FACES(KZ_VERTEX, 1);
+}
+
+/* Two squares that have no side in common: the tables hold both, though 9 does not tell how many darts they have. */
+static void squares_apart(void)
+{
+    struct map m;
+    begin("squares apart");
+    m = post_squares(2);
+    want_posted(m);
+    lend_text("OFF 8 2 0 a b c d e f g h i j k l m n o p q r s t u v w x\n4 0 1 2 3\n4 4 5 6 7\n");
+    LEND(posted, 48);
+    LEND(work, 32);
+    EXPECT_FACES(KZ_NOT_REACHED, 8);
+    CHECK(no_link(work, 32) && same_entries(posted, wanted_tables, 48));
+    EXPECT(call_check(m, 8), KZ_NOT_REACHED, 0);
+    SHORTEN(work, 31);
+    EXPECT_FACES(KZ_SHORT_WORK, 0);
+}
+
+/* A strip of triangles k, k+1, k+2, each with a side of the next, in which some faces are others. */
+struct strip {
+    uint32_t faces, count; /* how many, and how many of them are others */
+    struct other {
+        uint32_t face, corners[3];
+    } others[3];
+    uint32_t number;
+    uint64_t place;
+};
+
+static void lend_strip(const struct strip *s)
+{
+    uint32_t k, j;
+    begin_text(s->faces + 4, s->faces);
+    for (k = 0; k < s->faces; k++) {
+        const uint32_t triangle[3] = { k, k + 1, k + 2 };
+        const uint32_t *corners = triangle;
+        for (j = 0; j < s->count; j++)
+            if (s->others[j].face == k)
+                corners = s->others[j].corners;
+        put_face(3, corners);
+    }
+    end_text();
+}
+
+/* Of more than 2,048 corners too the faces are looked through before 2 is told, with uses of a side far apart. */
+static void long_face_files(void)
+{
+    static const struct strip strips[] = {
+        { 682, 0, { { 0 } }, 0, 0 },
+        { 683, 0, { { 0 } }, 2, 0 },
+        { 682, 1, { { 681, { 1, 2, 684 } } }, 29, 681 },
+        { 684, 1, { { 683, { 1, 2, 686 } } }, 29, 683 },
+        { 2101, 1, { { 1000, { 0, 2, 2103 } } }, 2, 0 },
+        { 2101, 2, { { 1000, { 0, 2, 2103 } }, { 2100, { 2, 0, 2104 } } }, 29, 2100 },
+        { 2101, 3, { { 1000, { 0, 2, 2103 } }, { 1400, { 2, 0, 2104 } }, { 1500, { 5, 5, 6 } } }, 29, 1400 },
+        { 2101, 3, { { 1000, { 0, 2, 2103 } }, { 1500, { 5, 5, 6 } }, { 2100, { 2, 0, 2104 } } }, 28, 1500 },
+        { 2101, 2, { { 700, { 9, 10, 11 } }, { 2000, { 0, 1, 2105 } } }, 29, 700 },
+        { 2101, 1, { { 2000, { 0, 1, 2105 } } }, 27, 2000 },
+    };
+    size_t k;
+    begin("long face files");
+    for (k = 0; k < sizeof strips / sizeof strips[0]; k++) {
+        uint64_t darts = strips[k].number == 0 ? 6 * strips[k].faces : 0;
+        lend_strip(&strips[k]);
+        lend_rooms_for(darts);
+        EXPECT_FACES(strips[k].number, strips[k].place);
+        if (darts > 0)
+            expect_as_checked(0, darts);
+    }
+}
+
 /* Limits. */
 
 static void as_many_darts_as_allowed(void)
@@ -977,23 +1286,25 @@ static void longest_stream(void)
 /* Every number has a text of its own, with what its place is; all that are no refusal's share one. */
 static void every_number_has_a_text(void)
 {
-    const uint32_t none = NUMBERS;
+    const char *none = kz_message(~(uint32_t)0);
     uint32_t number, other;
     what = "the texts of the numbers";
-    for (number = 0; number <= none; number++)
-        for (other = 0; other < number; other++)
-            CHECK(strcmp(kz_message(number), kz_message(other)) != 0);
-    for (number = KZ_ACCEPTED + 1; number < NUMBERS; number++)
-        CHECK(strstr(kz_message(number), " (place: ") != NULL);
-    CHECK(strcmp(kz_message(none), kz_message(~(uint32_t)0)) == 0);
+    for (number = 0; number <= NUMBERS; number++) {
+        const char *message = kz_message(number);
+        CHECK((strcmp(message, none) != 0) == is_number(number));
+        CHECK((strstr(message, " (place: ") != NULL) == (number != KZ_ACCEPTED && is_number(number)));
+        for (other = 0; other < number && is_number(number); other++)
+            CHECK(strcmp(message, kz_message(other)) != 0);
+    }
+    CHECK(strcmp(none, "there is no refusal of this number") == 0);
 }
 
 static void every_number_was_seen(void)
 {
-    int k;
-    what = "every number from 0 to 23 was answered";
+    uint32_t k;
+    what = "every number from 0 to 23 and from 26 to 29 was answered, and no other";
     for (k = 0; k < NUMBERS; k++)
-        CHECK(seen[k]);
+        CHECK(seen[k] == is_number(k));
 }
 
 int main(void)
@@ -1022,6 +1333,12 @@ int main(void)
     known_streams();
     starts_at_and_past_the_end();
     samples_there_and_back();
+    read_each_face_file();
+    face_files_of_grids();
+    face_files_of_squares();
+    rooms_for_a_cube();
+    squares_apart();
+    long_face_files();
     as_many_darts_as_allowed();
     longest_stream();
     every_number_has_a_text();

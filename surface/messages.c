@@ -29,9 +29,15 @@ static const char *const messages[] = {
     [KZ_NOT_NUMBERED] = "the stream names a dart that has no number yet (place: the steps done)",
     [KZ_ITSELF] = "the stream names the dart itself (place: the steps done)",
     [KZ_LINKED] = "the stream names a dart that has a link at this rank already (place: the steps done)",
+    [KZ_WORD] = "a word or number of the text is malformed or missing (place: its first byte, or the text's length)",
+    [KZ_VERTEX] = "a vertex number is too large (place: the face, counted from 0)",
+    [KZ_FACE] = "a face has fewer than three corners or two equal neighbours (place: the face, counted from 0)",
+    [KZ_SIDE] = "a side is used a third time (place: the face, counted from 0)",
 };
 
+/* A number between others may be no refusal's, and has no text in the list then. */
 const char *kz_message(uint32_t number)
 {
-    return number < sizeof messages / sizeof *messages ? messages[number] : "there is no refusal of this number";
+    const char *text = number < sizeof messages / sizeof *messages ? messages[number] : NULL;
+    return text != NULL ? text : "there is no refusal of this number";
 }

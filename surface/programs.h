@@ -5,6 +5,7 @@
 #ifndef SURFACE_PROGRAMS_H
 #define SURFACE_PROGRAMS_H
 
+#include "bench_faces.h"
 #include "bench_maps.h"
 #include "reference.h"
 #include <stdlib.h>
@@ -17,6 +18,7 @@ union session {
 
 struct program {
     uint32_t (*check)(uint64_t, uint64_t, uint64_t, const uint16_t *, size_t, uint16_t *, size_t, uint32_t *);
+    uint32_t (*faces)(const uint8_t *, size_t, uint16_t *, size_t, uint16_t *, size_t, uint64_t *);
     uint32_t (*write)(uint64_t, uint64_t, uint64_t, uint64_t, const uint16_t *, size_t, uint16_t *, size_t, uint8_t *,
                       size_t, uint32_t *);
     uint32_t (*read)(const uint8_t *, size_t, uint16_t *, size_t, uint32_t *);
@@ -51,8 +53,8 @@ static uint32_t reference_close(union session *s, uint16_t *tables, size_t room,
 enum { LIBRARY, REFERENCE, PROGRAMS };
 
 static const struct program programs[PROGRAMS] = {
-    { kz_check, kz_write, kz_read, library_open, library_page, library_close, kz_report },
-    { ref_check, ref_write, ref_read, reference_open, reference_page, reference_close, ref_report },
+    { kz_check, kz_faces, kz_write, kz_read, library_open, library_page, library_close, kz_report },
+    { ref_check, ref_faces, ref_write, ref_read, reference_open, reference_page, reference_close, ref_report },
 };
 
 /* What each program is lent. */
@@ -61,6 +63,7 @@ struct side {
     _Alignas(4096) uint16_t work[KZ_MAX_WORK + SPARE];
     _Alignas(4096) uint8_t out[KZ_MAX_STREAM + SPARE];
     uint32_t answer[KZ_REPORT_ANSWER];
+    uint64_t wide[KZ_FACES_ANSWER];
     union session session;
 };
 
@@ -82,6 +85,7 @@ static void prepare(struct side *side)
     memset(side->work, CANARY, work_used);
     memset(side->out, CANARY, out_used);
     memset(side->answer, CANARY, sizeof side->answer);
+    memset(side->wide, CANARY, sizeof side->wide);
 }
 
 static void prepare_both(void)
@@ -115,6 +119,7 @@ static void same_sides(const char *call)
 {
     const struct side *a = &sides[LIBRARY], *b = &sides[REFERENCE];
     same_room(call, "answer", a->answer, b->answer, sizeof a->answer);
+    same_room(call, "wide answer", a->wide, b->wide, sizeof a->wide);
     same_room(call, "tables", a->tables, b->tables, tables_used);
     same_room(call, "work", a->work, b->work, work_used);
     same_room(call, "out", a->out, b->out, out_used);
@@ -169,6 +174,35 @@ static void all_reports_met(void)
                    k % 2 ? "" : "not ");
             exit(1);
         }
+}
+
+static unsigned long faces_by[NUMBERS]; /* how many of the face files compared were answered by each number */
+
+/* The text that is lent. */
+static void compare_faces(size_t tables, size_t work_entries)
+{
+    int k;
+    prepare_both();
+    for (k = 0; k < PROGRAMS; k++)
+        programs[k].faces(text, LENGTH(text), sides[k].tables, tables, sides[k].work, work_entries, sides[k].wide);
+    same_sides("faces");
+    faces_by[sides[LIBRARY].wide[0]]++;
+}
+
+/* Every number that a face file is answered by was met, and no other: how often each. */
+static void all_faces_met(void)
+{
+    uint32_t k;
+    printf("bench: face files by number");
+    for (k = 0; k < NUMBERS; k++) {
+        if (faces_by[k] > 0)
+            printf(" %u:%lu", (unsigned)k, faces_by[k]);
+        if ((faces_by[k] > 0) != is_of_faces(k)) {
+            printf("\nbench: %lu of the face files compared were answered by %u\n", faces_by[k], (unsigned)k);
+            exit(1);
+        }
+    }
+    printf("\n");
 }
 
 static void compare_write(struct posting p, uint64_t start, size_t size)
@@ -271,15 +305,6 @@ static void compare_map(const char *name, struct map m, uint64_t root, size_t wr
 }
 
 /* Spoiled inputs. */
-
-static uint32_t dice(uint32_t sides_of_it)
-{
-    static uint32_t state = 2463534242u;
-    state ^= state << 13;
-    state ^= state >> 17;
-    state ^= state << 5;
-    return state % sides_of_it;
-}
 
 /* Ties two darts at some rank, and the partners they had each to itself: still its own inverse, but perhaps not a map
    any more. */
@@ -400,6 +425,54 @@ static void compare_known_streams(void)
         }
 }
 
+/* Rooms for the mesh, or shorter ones; no longer than there are. */
+static void compare_mesh(void)
+{
+    uint32_t tables = 6 * mesh.corners + dice(3), work_entries = 4 * mesh.corners + dice(3);
+    if (dice(8) == 0)
+        tables = dice(tables + 1);
+    if (dice(8) == 0)
+        work_entries = dice(work_entries + 1);
+    if (work_entries > KZ_MAX_WORK)
+        work_entries = KZ_MAX_WORK;
+    end_text();
+    map_shape.dim = 2;
+    map_shape.darts = 2 * mesh.corners;
+    map_root = 0;
+    use_rooms(tables, work_entries, 0);
+    compare_faces(tables, work_entries);
+}
+
+/* Face files of a few faces: good ones, some with other numbers in them, and some with other bytes. */
+static void compare_face_files(int rounds)
+{
+    uint32_t k;
+    map_name = "of a face file";
+    for (; rounds > 0; rounds--) {
+        mesh_of_some_kind();
+        for (k = dice(3); k > 0 && rounds % 3 == 1; k--)
+            spoil_mesh();
+        write_mesh(dice(3) == 0);
+        for (k = dice(3); k > 0 && rounds % 3 == 2 && text_end > 0; k--)
+            spoil_text();
+        compare_mesh();
+    }
+}
+
+/* Face files about the greatest number of darts and past it, some of them spoiled. */
+static void compare_long_face_files(int rounds)
+{
+    uint32_t k;
+    map_name = "of a long face file";
+    for (; rounds > 0; rounds--) {
+        mesh_strip(600 + dice(400));
+        for (k = dice(3); k > 0; k--)
+            spoil_mesh();
+        write_mesh(dice(2) == 0);
+        compare_mesh();
+    }
+}
+
 /* The comparisons that are quick. */
 static void compare_small(void)
 {
@@ -419,6 +492,9 @@ static void compare_small(void)
     }
     compare_spoiled_maps(2000);
     compare_spoiled_streams(1000);
+    compare_face_files(3000);
+    compare_long_face_files(60);
+    all_faces_met();
     all_reads_met();
     all_reports_met();
 }

@@ -1,4 +1,5 @@
 #include "reference.h"
+#include <stdlib.h>
 #include <string.h>
 
 enum { NO_LINK = 65535, MAX_STREAM = 50178 };
@@ -305,6 +306,236 @@ uint32_t ref_check(uint64_t dim, uint64_t darts, uint64_t root, const uint16_t *
 {
     struct posting posting = { dim, darts, root, tables, tables_length, work, work_length };
     return answer_fault(answer, CHECK_ANSWER, check_posting(&posting, NULL));
+}
+
+/* Face files: one reading into arrays, a hash table of the sides, then the map. */
+
+struct text {
+    const uint8_t *bytes;
+    size_t length, at;
+};
+
+struct side {
+    uint32_t low, high; /* its two vertices */
+    uint32_t uses;
+    size_t corners[2]; /* that use it */
+};
+
+struct face_file {
+    uint32_t vertices, faces;
+    uint32_t *sizes;   /* how many corners each face has */
+    uint32_t *corners; /* the vertex of each corner, in file order */
+    size_t count;      /* of corners */
+    struct side *sides;
+    size_t mask;   /* one less than the length of `sides`, a power of two */
+    size_t *slots; /* where each corner's side stands in `sides` */
+};
+
+/* So many elements, all 0. */
+static void *room_for(size_t count, size_t size)
+{
+    void *room = calloc(count, size);
+    if (room == NULL)
+        exit(2);
+    return room;
+}
+
+static int is_blank(uint8_t byte)
+{
+    return byte == ' ' || byte == '\t' || byte == '\r' || byte == '\n';
+}
+
+static void pass_line(struct text *text)
+{
+    while (text->at < text->length && text->bytes[text->at] != '\n')
+        text->at++;
+}
+
+/* Goes past the next word and answers its length, 0 if there is none; its place is told. */
+static size_t pass_word(struct text *text, uint64_t *place)
+{
+    while (text->at < text->length && (is_blank(text->bytes[text->at]) || text->bytes[text->at] == '#')) {
+        if (text->bytes[text->at] == '#')
+            pass_line(text);
+        else
+            text->at++;
+    }
+    *place = text->at;
+    while (text->at < text->length && !is_blank(text->bytes[text->at]) && text->bytes[text->at] != '#')
+        text->at++;
+    return text->at - *place;
+}
+
+/* The next word as a number; 0 if it is none, and its place is told. */
+static int take_number(struct text *text, uint32_t *number, uint64_t *place)
+{
+    size_t length = pass_word(text, place);
+    const uint8_t *word = text->bytes + *place;
+    *number = 0;
+    for (size_t k = 0; k < length; k++) {
+        if (word[k] < '0' || word[k] > '9' || k == 9)
+            return 0;
+        *number = 10 * *number + (uint32_t)(word[k] - '0');
+    }
+    return length > 0;
+}
+
+/* The word OFF, the three counts and the words of the vertices. */
+static int take_vertices(struct text *text, struct face_file *file, uint64_t *place)
+{
+    uint32_t edges;
+    if (pass_word(text, place) != 3 || memcmp(text->bytes + *place, "OFF", 3) != 0)
+        return 0;
+    if (!take_number(text, &file->vertices, place) || !take_number(text, &file->faces, place) ||
+        !take_number(text, &edges, place))
+        return 0;
+    for (uint64_t k = 0; k < 3 * (uint64_t)file->vertices; k++)
+        if (pass_word(text, place) == 0)
+            return 0;
+    return 1;
+}
+
+/* The faces, in rooms for as many numbers as the rest of the text can have. */
+static int take_faces(struct text *text, struct face_file *file, uint64_t *place)
+{
+    size_t most = (text->length - text->at) / 2 + 1;
+    file->sizes = room_for(most, sizeof *file->sizes);
+    file->corners = room_for(most, sizeof *file->corners);
+    for (uint32_t f = 0; f < file->faces; f++) {
+        uint32_t size;
+        if (!take_number(text, &size, place))
+            return 0;
+        file->sizes[f] = size;
+        for (uint32_t k = 0; k < size; k++) {
+            uint32_t vertex;
+            if (!take_number(text, &vertex, place))
+                return 0;
+            file->corners[file->count++] = vertex;
+        }
+        pass_line(text);
+    }
+    return 1;
+}
+
+/* One more use of a side; 0 if it is the third. */
+static int use_side(struct face_file *file, size_t corner, size_t next)
+{
+    uint32_t u = file->corners[corner], v = file->corners[next], low = u < v ? u : v, high = u < v ? v : u;
+    size_t at = (size_t)(((uint64_t)low << 32 | high) * 0x9E3779B97F4A7C15u >> 32) & file->mask;
+    struct side *side = &file->sides[at];
+    while (side->uses > 0 && (side->low != low || side->high != high)) {
+        at = (at + 1) & file->mask;
+        side = &file->sides[at];
+    }
+    if (side->uses == 2)
+        return 0;
+    side->low = low;
+    side->high = high;
+    side->corners[side->uses++] = corner;
+    file->slots[corner] = at;
+    return 1;
+}
+
+/* 27, 28 or 29 of the face whose first corner this is. */
+static uint32_t test_face(struct face_file *file, size_t first, uint32_t size)
+{
+    const uint32_t *corners = file->corners + first;
+    for (uint32_t k = 0; k < size; k++)
+        if (corners[k] >= file->vertices)
+            return 27;
+    if (size < 3)
+        return 28;
+    for (uint32_t k = 0; k < size; k++)
+        if (corners[k] == corners[k + 1 < size ? k + 1 : 0])
+            return 28;
+    for (uint32_t k = 0; k < size; k++)
+        if (!use_side(file, first + k, k + 1 < size ? first + k + 1 : first))
+            return 29;
+    return 0;
+}
+
+static uint32_t test_faces(struct face_file *file, uint64_t *place)
+{
+    size_t first = 0, length = 16;
+    while (length < 2 * file->count)
+        length *= 2;
+    file->mask = length - 1;
+    file->sides = room_for(length, sizeof *file->sides);
+    file->slots = room_for(file->count + 1, sizeof *file->slots);
+    for (uint32_t f = 0; f < file->faces; f++) {
+        uint32_t number = test_face(file, first, file->sizes[f]);
+        *place = f;
+        if (number != 0)
+            return number;
+        first += file->sizes[f];
+    }
+    return 0;
+}
+
+/* Joins two darts, or a dart to itself. */
+static void join(uint16_t *tables, uint32_t rank, size_t d, size_t e)
+{
+    tables[position(2, rank, (uint32_t)d)] = (uint16_t)e;
+    tables[position(2, rank, (uint32_t)e)] = (uint16_t)d;
+}
+
+/* The links of a corner's two darts: the own end's and the far end's. */
+static void join_corner(const struct face_file *file, size_t corner, size_t next, uint16_t *tables)
+{
+    const struct side *side = &file->sides[file->slots[corner]];
+    size_t own = 2 * corner, far = own + 1;
+    join(tables, 0, own, far);
+    join(tables, 1, far, 2 * next);
+    if (side->uses == 1) {
+        join(tables, 2, own, own);
+        join(tables, 2, far, far);
+    } else {
+        size_t other = side->corners[side->corners[0] == corner];
+        size_t crosswise = file->corners[other] != file->corners[corner];
+        join(tables, 2, own, 2 * other + crosswise);
+        join(tables, 2, far, 2 * other + 1 - crosswise);
+    }
+}
+
+/* 2, 3 and 4; then the tables are written and checked from root 0. */
+static struct fault post_faces(const struct face_file *file, uint16_t *tables, size_t tables_length, uint16_t *work,
+                               size_t work_length)
+{
+    struct posting posting = { 2, 2 * (uint64_t)file->count, 0, tables, tables_length, work, work_length };
+    struct fault fault = test_numbers(2, posting.darts, 0, tables_length, work_length);
+    size_t first = 0;
+    if (fault.number != 0)
+        return fault;
+    for (uint32_t f = 0; f < file->faces; f++) {
+        for (size_t k = 0; k < file->sizes[f]; k++)
+            join_corner(file, first + k, k + 1 < file->sizes[f] ? first + k + 1 : first, tables);
+        first += file->sizes[f];
+    }
+    return check_posting(&posting, NULL);
+}
+
+uint32_t ref_faces(const uint8_t *bytes, size_t bytes_length, uint16_t *tables, size_t tables_length, uint16_t *work,
+                   size_t work_length, uint64_t *answer)
+{
+    struct text text = { bytes, bytes_length, 0 };
+    struct face_file file = { 0 };
+    uint64_t place = 0;
+    uint32_t number = 26;
+    if (take_vertices(&text, &file, &place) && take_faces(&text, &file, &place))
+        number = test_faces(&file, &place);
+    if (number == 0) {
+        struct fault fault = post_faces(&file, tables, tables_length, work, work_length);
+        number = fault.number;
+        place = fault.place;
+    }
+    answer[0] = number;
+    answer[1] = place;
+    answer[2] = number == 0 ? 2 * (uint64_t)file.count : 0;
+    free(file.sizes);
+    free(file.corners);
+    free(file.sides);
+    free(file.slots);
+    return number;
 }
 
 uint32_t ref_write(uint64_t dim, uint64_t darts, uint64_t root, uint64_t start, const uint16_t *tables,

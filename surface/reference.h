@@ -4,9 +4,10 @@
  * library against.
  *
  * Each call takes what the library's call of the same name takes, returns the refusal number and stores the same
- * answer. Two things differ. A session is a struct with its queues in it, lent by the caller, and is trusted: refusal
- * 19 is never given. And the other calls have their queues and tables in static memory, so they are not for several
- * threads at once.
+ * answer. Three things differ. A session is a struct with its queues in it, lent by the caller, and is trusted: refusal
+ * 19 is never given. A face file is read into rooms that are allocated, and the program ends where there is no memory
+ * for them. And the other calls have their queues and tables in static memory, so they are not for several threads at
+ * once.
  */
 #ifndef SURFACE_REFERENCE_H
 #define SURFACE_REFERENCE_H
@@ -36,6 +37,9 @@ struct ref_session {
 
 uint32_t ref_check(uint64_t dim, uint64_t darts, uint64_t root, const uint16_t *tables, size_t tables_length,
                    uint16_t *work, size_t work_length, uint32_t *answer);
+
+uint32_t ref_faces(const uint8_t *text, size_t text_length, uint16_t *tables, size_t tables_length, uint16_t *work,
+                   size_t work_length, uint64_t *answer);
 
 uint32_t ref_write(uint64_t dim, uint64_t darts, uint64_t root, uint64_t start, const uint16_t *tables,
                    size_t tables_length, uint16_t *work, size_t work_length, uint8_t *out, size_t out_length,

@@ -12,9 +12,15 @@
 /* Checks. */
 
 static unsigned long checks, failures;
-static const char *what = "";  /* the case at hand */
-enum { NUMBERS = KZ_LINKED + 1 }; /* 0 and the refusal numbers */
-static int seen[NUMBERS];         /* those that some call has answered */
+static const char *what = "";   /* the case at hand */
+enum { NUMBERS = KZ_SIDE + 1 }; /* 0 and the refusal numbers */
+static int seen[NUMBERS];       /* those that some call has answered */
+
+/* Is it 0 or a refusal's? Between them are two numbers that are not. */
+static int is_number(uint32_t number)
+{
+    return number < NUMBERS && number != 24 && number != 25;
+}
 
 enum { TOLD = 50 }; /* so many failures are told, all are counted */
 
@@ -34,6 +40,8 @@ enum { GUARD = 64, CANARY = 0xA5, SPARE = 32 };
 /* One dart more than the limit, in all seven ranks, and SPARE entries. */
 enum { TABLES = KZ_MAX_TABLES + 7 + SPARE };
 
+enum { LONGEST_TEXT = 1 << 20 };
+
 struct room {
     unsigned char *hold; /* a guard, the bytes lent, a guard */
     unsigned char *was;  /* the bytes lent, as they were before the call */
@@ -48,17 +56,19 @@ struct room {
                                        (unsigned char *)name##_was,       \
                                        (length) * sizeof(type), 0 }
 
-ROOM(uint16_t, posted, TABLES); /* a posted map's tables */
+ROOM(uint16_t, posted, TABLES); /* a posted map's tables, and those that a face file is read into */
 ROOM(uint16_t, built, TABLES);  /* the tables of a reading */
 ROOM(uint16_t, work, KZ_MAX_WORK + 2 + SPARE);
 ROOM(uint8_t, out, KZ_MAX_STREAM + SPARE);  /* for the page that the writer gives */
 ROOM(uint8_t, page, KZ_MAX_STREAM + SPARE); /* the bytes that a reading gets */
+ROOM(uint8_t, text, LONGEST_TEXT);          /* a face file */
 ROOM(uint32_t, record, KZ_RECORD);
 ROOM(uint32_t, answer, KZ_REPORT_ANSWER);
+ROOM(uint64_t, wide, KZ_FACES_ANSWER); /* the answer of kz_faces */
 
-enum { POSTED, BUILT, WORK, OUT, PAGE, RECORD, ANSWER, ROOMS };
-static struct room *const rooms[ROOMS] = { &posted_room, &built_room, &work_room, &out_room,
-                                           &page_room, &record_room, &answer_room };
+enum { POSTED, BUILT, WORK, OUT, PAGE, TEXT, RECORD, ANSWER, WIDE, ROOMS };
+static struct room *const rooms[ROOMS] = { &posted_room, &built_room, &work_room, &out_room, &page_room,
+                                           &text_room, &record_room, &answer_room, &wide_room };
 
 /* Lends so many bytes. What they hold differs from place to place, so that a byte moved is seen as well as a byte set.
  */
@@ -188,14 +198,20 @@ static void after_call(unsigned may_change)
     }
 }
 
+static void see(uint32_t number)
+{
+    CHECK(is_number(number));
+    if (number < NUMBERS)
+        seen[number] = 1;
+}
+
 /* After every call that answers: the number is returned and stored, and it is one that such a call may give. */
 static void after_answer(uint32_t number, unsigned may_change, uint32_t least, uint32_t most)
 {
     after_call(may_change | 1u << ANSWER);
     CHECK(number == answer[0]);
     CHECK(number == 0 || (number >= least && number <= most));
-    if (number < NUMBERS)
-        seen[number] = 1;
+    see(number);
     if (number <= KZ_ROOT || number == KZ_UNFIT || number == KZ_CLOSED)
         CHECK(answer[1] == 0);
 }
@@ -232,6 +248,55 @@ static uint32_t call_check(struct map m, uint64_t root)
     number = kz_check(m.dim, m.darts, root, posted, LENGTH(posted), work, LENGTH(work), answer);
     after_answer(number, 1u << WORK, KZ_DIMENSION, KZ_NOT_REACHED);
     after_walk(number, m, root);
+    return number;
+}
+
+/* The numbers that a face file is answered by. */
+static int is_of_faces(uint32_t number)
+{
+    return number == KZ_ACCEPTED || (number >= KZ_DARTS && number <= KZ_SHORT_WORK) || number == KZ_NOT_REACHED ||
+           (number >= KZ_WORD && number <= KZ_SIDE);
+}
+
+/* The n of the map that a face file left in the tables. After 9 it is not told: then the first 2n of the work room are
+   KZ_NO_LINK, and no other entry of a room that was lent afresh is. */
+static uint64_t darts_of_faces(uint32_t number)
+{
+    size_t k = 0;
+    if (number == KZ_ACCEPTED)
+        return wide[2];
+    while (k < LENGTH(work) && work[k] == KZ_NO_LINK)
+        k++;
+    return k / 2;
+}
+
+static void after_faces(uint32_t number)
+{
+    struct map m = { 2, 0 };
+    CHECK(number == wide[0] && is_of_faces(number));
+    CHECK(wide[1] == 0 || number > KZ_SHORT_WORK);
+    CHECK(wide[1] < LENGTH(text) || wide[1] == 0 || (number == KZ_WORD && wide[1] == LENGTH(text)));
+    if (number != KZ_ACCEPTED)
+        CHECK(wide[2] == 0);
+    if (number != KZ_ACCEPTED && number != KZ_NOT_REACHED) {
+        CHECK(KEPT(posted) && KEPT(work));
+        return;
+    }
+    m.darts = darts_of_faces(number);
+    CHECK(m.darts >= 6 && m.darts % 2 == 0 && m.darts <= KZ_MAX_DARTS && 3 * m.darts <= LENGTH(posted));
+    CHECK(all_below(posted, 3 * m.darts, (uint32_t)m.darts) && KEPT_FROM(posted, 3 * m.darts));
+    after_walk(number, m, 0);
+}
+
+static uint32_t call_faces(void)
+{
+    uint32_t number;
+    LEND(wide, KZ_FACES_ANSWER);
+    before_call();
+    number = kz_faces(text, LENGTH(text), posted, LENGTH(posted), work, LENGTH(work), wide);
+    after_call(1u << POSTED | 1u << WORK | 1u << WIDE);
+    see(number);
+    after_faces(number);
     return number;
 }
 
@@ -413,5 +478,16 @@ static void expect_answer(uint32_t number, uint32_t place, const char *file, int
 
 #define EXPECT_LAST(number, place) expect_answer(number, place, __FILE__, __LINE__)
 #define EXPECT(call, number, place) ((void)(call), EXPECT_LAST(number, place))
+
+/* The same of a face file. */
+static void expect_faces(uint32_t number, uint64_t place, const char *file, int line)
+{
+    checks++;
+    if ((wide[0] != number || wide[1] != place) && ++failures <= TOLD)
+        printf("%s:%d: %s: answered %llu at %llu, not %u at %llu\n", file, line, what, (unsigned long long)wide[0],
+               (unsigned long long)wide[1], number, (unsigned long long)place);
+}
+
+#define EXPECT_FACES(number, place) ((void)call_faces(), expect_faces(number, place, __FILE__, __LINE__))
 
 #endif

@@ -1,4 +1,4 @@
-# Read by surface/test: the tests of ./run, of ./install and of what is installed.
+# Read by surface/test: the tests of ./run, of off.c, of ./install and of what is installed.
 
 # ends STATUS WORD...: a command ends with this status; what it prints goes to target/surface/said.out and said.err.
 ends() {
@@ -73,6 +73,61 @@ test_listing() {
   lists 0 "$text" "$root/run" "$build/longest.stream" </dev/null
   refuses_words "$root/run" </dev/null
   say "the listing program prints what it is to print"
+}
+
+# cube_text FACES: OFF text of so many faces of a cube, the lid first, with comments and ends of lines of every kind.
+cube_text() {
+  printf '# a cube\nOFF\r\n8 %s 12\n0 0 0  1 0 0\r\n1 1 0  0 1 0 # below\n0 0 1  1 0 1  1 1 1  0 1 1\n' "$1"
+  printf '%s\n' '4 4 5 6 7 255 0 0' '4 0 3 2 1' '4 0 1 5 4# front' '4 1 2' '6 5' '4 2 3 7 6' '4 3 0 4 7' |
+    tail -n +"$((7 - $1))"
+}
+
+# torus_text: as many squares as a map may have; the text is longer than off.c's first room, the stream than its pages.
+torus_text() {
+  awk 'BEGIN {
+    print "OFF\n512 512 1024"
+    for (v = 0; v < 512; v++) print v % 32 ".5", int(v / 32), 0
+    for (f = 0; f < 512; f++) {
+      x = f % 32; y = f - x; next_x = (x + 1) % 32; next_y = (y + 32) % 512
+      print 4, y + x, y + next_x, next_y + next_x, next_y + x
+    }
+  }'
+}
+
+# summary: how ./run lists standard input, but for the lines of the darts.
+summary() { "$root/run" | sed '/^[0-9]/d'; }
+
+# posts TEXT WORD...: of the OFF text on standard input off.c makes a stream, for which these words print this text.
+posts() {
+  ends 0 run off
+  said_no err
+  cp "$build/said.out" "$build/off.stream"
+  lists 0 "$1" "${@:2}" <"$build/off.stream"
+}
+
+# listing DARTS CELLS FREE STEPS ORIENTABLE: what a summary says of a map of dimension 2.
+listing() { printf 'dimension 2 darts %s\ncells %s\nfree %s\nsteps %s\norientable %s\n' "$@"; }
+
+# From OFF text to a stream, and by ./run to its listing. A refused text prints its line and gives no stream.
+test_off() {
+  local flat='OFF 4 1 4 0 0 0 1 0 0 1 1 0 0 1 0'
+  local strip='OFF 6 3 9 0 0 0 1 0 0 2 0 0 3 0 0 4 0 0 5 0 0'
+  printf '%s\n' "$flat" '4 0 1 2 3' | posts "$square" "$root/run"
+  cube_text 6 | posts "$(listing 48 '8 12 6' 0 144 yes)" summary
+  cube_text 5 | posts "$(listing 40 '8 12 5' 8 120 yes)" summary
+  printf '%s\n' "$strip" '4 0 1 3 2' '4 2 3 5 4' '4 4 5 0 1' | posts "$(listing 24 '6 9 3' 12 72 no)" summary
+  torus_text | posts "$(listing 4096 '512 1024 512' 0 12288 yes)" summary
+  [ "$(wc -c <"$build/off.stream")" -gt 1024 ] || stop "the stream of the torus has one page only"
+  printf '%s\n' "$flat" '4 0 1 2 2' | ends 1 run off
+  said_no out
+  said err '^refused 28 at 0: a face has fewer than three corners or two equal neighbours (place: the face,'
+  printf 'OFF 4 1 4 0 0 0 1 O' | ends 1 run off
+  said_no out
+  said err '^refused 26 at 19: a word or number of the text is malformed or missing (place: '
+  ends 2 run off <"$root"
+  said_no out
+  said err '^the text could not be read$'
+  say "off.c makes of OFF text the stream that it is to make"
 }
 
 # When ./run proves and builds, and what it says then, in a copy of the repository with a stand-in for rt: it takes
@@ -207,6 +262,7 @@ test_install() {
   ends 0 "$root/install" "$prefix"
   used example
   used short
+  used post
   test_version
   test_installed_listing
   say "the library installs, and is used from there ($(command -v pkg-config || echo "without pkg-config"))"

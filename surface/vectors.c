@@ -59,6 +59,12 @@ static uint32_t call_check(const struct posted *p)
                                work.length, numbers_of(&answer)));
 }
 
+static uint32_t call_faces(void)
+{
+    return count_call(kz_faces(bytes_of(&text), text.length, entries_of(&tables), tables.length, entries_of(&work),
+                               work.length, wide_numbers_of(&wide_answer)));
+}
+
 static uint32_t call_write(const struct posted *p, uint64_t start)
 {
     return count_call(kz_write(p->dim, p->darts, p->root, start, entries_of(&tables), tables.length,
@@ -109,6 +115,20 @@ static void check_line(struct tally *t, struct line *l)
     take_after(l, &work);
     if (is_case(t, l))
         judge(t, call_check(&p));
+}
+
+/* faces.txt: text tablesLength workLength number place n tablesAfter workAfter. */
+static void faces_line(struct tally *t, struct line *l)
+{
+    empty_rooms();
+    take_lent(l, &text);
+    lend(&tables, take_length(l, &tables));
+    lend(&work, take_length(l, &work));
+    take_wide_answer(l, KZ_FACES_ANSWER);
+    take_after(l, &tables);
+    take_after(l, &work);
+    if (is_case(t, l))
+        judge(t, call_faces());
 }
 
 /* writing.txt: N n root tables stream. */
@@ -363,6 +383,7 @@ static const struct kind {
 } kinds[] = {
     { "writing.txt", write_line },
     { "checking.txt", check_line },
+    { "faces.txt", faces_line },
     { "reading.txt", read_line },
     { "reports.txt", report_line },
     { "sessions.txt", session_line },

@@ -32,23 +32,27 @@ ROOM(uint16_t, work, WORK, 1, 7);
 ROOM(uint8_t, out, STREAM + SPARE, 3, 5); /* for the page that the writer gives */
 ROOM(uint8_t, stream, STREAM, 3, 5);      /* a whole stream */
 ROOM(uint8_t, page, STREAM, 3, 5);        /* a part of it that a session gets */
+ROOM(uint8_t, text, STREAM, 3, 5);        /* a face file */
 ROOM(uint32_t, record, KZ_RECORD, 5, 11);
 ROOM(uint32_t, answer, KZ_REPORT_ANSWER, 5, 11);
+ROOM(uint64_t, wide_answer, KZ_FACES_ANSWER, 5, 11); /* of 64-bit numbers, for kz_faces */
 
-static struct room *const rooms[] = { &tables, &work, &out, &stream, &page, &record, &answer };
+static struct room *const rooms[] = { &tables, &work, &out, &stream, &page, &text, &record, &answer, &wide_answer };
 enum { ROOMS = sizeof rooms / sizeof *rooms };
 
 /* What is lent, as the calls take it. */
 static uint8_t *bytes_of(const struct room *r) { return (uint8_t *)r->held + GUARD; }
 static uint16_t *entries_of(const struct room *r) { return (uint16_t *)r->held + GUARD / sizeof(uint16_t); }
 static uint32_t *numbers_of(const struct room *r) { return (uint32_t *)r->held + GUARD / sizeof(uint32_t); }
+static uint64_t *wide_numbers_of(const struct room *r) { return (uint64_t *)r->held + GUARD / sizeof(uint64_t); }
 
 static uint64_t element(const void *from, size_t width, size_t k)
 {
     switch (width) {
     case 1: return ((const uint8_t *)from)[k];
     case 2: return ((const uint16_t *)from)[k];
-    default: return ((const uint32_t *)from)[k];
+    case 4: return ((const uint32_t *)from)[k];
+    default: return ((const uint64_t *)from)[k];
     }
 }
 
@@ -57,7 +61,8 @@ static void set_element(void *to, size_t width, size_t k, uint64_t value)
     switch (width) {
     case 1: ((uint8_t *)to)[k] = (uint8_t)value; break;
     case 2: ((uint16_t *)to)[k] = (uint16_t)value; break;
-    default: ((uint32_t *)to)[k] = (uint32_t)value; break;
+    case 4: ((uint32_t *)to)[k] = (uint32_t)value; break;
+    default: ((uint64_t *)to)[k] = value; break;
     }
 }
 
@@ -140,12 +145,13 @@ static void take_after(struct line *l, struct room *r)
         set_fault(l, "the run is not as long as the room that is lent");
 }
 
-/* So many numbers of 32 bits, as what the room has to hold. */
+/* So many numbers of the room's width, 32 or 64 bits, as what the room has to hold. */
 static void take_numbers(struct line *l, struct room *r, size_t count)
 {
+    uint64_t most = r->width == sizeof(uint32_t) ? UINT32_MAX : UINT64_MAX;
     size_t k;
     for (k = 0; k < count; k++)
-        set_element(r->want, r->width, k, take_number(l, UINT32_MAX));
+        set_element(r->want, r->width, k, take_number(l, most));
 }
 
 /* An answer of so many numbers. */
@@ -153,6 +159,12 @@ static void take_answer(struct line *l, size_t count)
 {
     take_numbers(l, &answer, count);
     lend(&answer, count);
+}
+
+static void take_wide_answer(struct line *l, size_t count)
+{
+    take_numbers(l, &wide_answer, count);
+    lend(&wide_answer, count);
 }
 
 /* Comparing. */
@@ -183,11 +195,17 @@ static void compare_room(struct tally *t, const struct room *r)
     }
 }
 
+/* The number that a call stored, in the one of the two answers that was lent. */
+static uint64_t stored_number(void)
+{
+    return wide_answer.length > 0 ? wide_numbers_of(&wide_answer)[0] : numbers_of(&answer)[0];
+}
+
 /* After a call: the number it returned is the one it stored, and every room is as it has to be. */
 static void compare(struct tally *t, uint32_t number)
 {
     int k;
-    if (number != numbers_of(&answer)[0])
+    if (number != stored_number())
         tell_wrong(t, "answer", "the number returned is not the number stored");
     for (k = ROOMS; k > 0; k--)
         compare_room(t, rooms[k - 1]);

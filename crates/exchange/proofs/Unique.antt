@@ -8,12 +8,13 @@ use Rattle.rules.specs.Map.{byDart}
 use Rattle.rules.specs.Check.{checkAnswer, checkWork}
 use Rattle.rules.specs.Reading.{readAnswer, readTables}
 use Rattle.rules.specs.Report.{reportAnswer, reportWork}
+use Rattle.shapes.specs.Faces.{facesAnswer, facesTables, facesWork}
 use Rattle.rules.specs.Session.{opened}
 use Rattle.rules.specs.Writing.{writeAnswer, writeOut, writeWork}
 use Rattle.rules.proofs.Unique.{one-value}
 use Rattle.stored.specs.Answers.{checkNumbers, writeNumbers, readNumbers, reportNumbers}
 use Rattle.stored.specs.Layout.{storedSession}
-use Rattle.exchange.specs.Rooms.{Lent, lent, pageLent, closeLent}
+use Rattle.exchange.specs.Rooms.{Lent, lent, pageLent, closeLent, facesNumbers}
 
 pub one-kz-check : (N n root : ℕ) (t work : List ℕ) (r r' : ℕ) (a a' u u' : List ℕ)
     → (r ≡ checkAnswer byDart N n root t work .number) × (a ≡ checkNumbers (checkAnswer byDart N n root t work)) × (u ≡ checkWork byDart N n root t work)
@@ -41,6 +42,15 @@ pub one-kz-report : (N n : ℕ) (t work : List ℕ) (r r' : ℕ) (a a' u u' : Li
     → (r' ≡ reportAnswer byDart N n t work .number) × (a' ≡ reportNumbers (reportAnswer byDart N n t work)) × (u' ≡ reportWork byDart N n t work)
     → (r ≡ r') × (a ≡ a') × (u ≡ u')
 one-kz-report N n t work r r' a a' u u' (p, q, s) (p', q', s') = (one-value _ _ _ p p', one-value _ _ _ q q', one-value _ _ _ s s')
+
+pub one-kz-faces : (text t work : List ℕ) (r r' : ℕ) (a a' u u' w w' : List ℕ)
+    → (r ≡ facesAnswer byDart text t work .number) × (a ≡ facesNumbers (facesAnswer byDart text t work)) × (u ≡ facesTables byDart text t work)
+    × (w ≡ facesWork byDart text t work)
+    → (r' ≡ facesAnswer byDart text t work .number) × (a' ≡ facesNumbers (facesAnswer byDart text t work)) × (u' ≡ facesTables byDart text t work)
+    × (w' ≡ facesWork byDart text t work)
+    → (r ≡ r') × (a ≡ a') × (u ≡ u') × (w ≡ w')
+one-kz-faces text t work r r' a a' u u' w w' (p, q, s, z) (p', q', s', z') =
+    (one-value _ _ _ p p', one-value _ _ _ q q', one-value _ _ _ s s', one-value _ _ _ z z')
 
 pub one-kz-open : (k k' : List ℕ) → k ≡ storedSession opened → k' ≡ storedSession opened → k ≡ k'
 one-kz-open k k' p q = one-value k k' (storedSession opened) p q

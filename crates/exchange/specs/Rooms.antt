@@ -1,12 +1,13 @@
--- What a session's call leaves in the rooms lent to it: the record as stored numbers, the answer as stored numbers, and the tables.
+-- What a session's call leaves in the rooms lent to it: the record as stored numbers, the answer as stored numbers, and the tables. A face file's answer.
 use Prim.Native.Nat.{ℕ}
-use mathlib.Core.List.{List}
+use mathlib.Core.List.{List, [], _∷_}
 use mathlib.Core.Bool.{Bool, true, false}
 use Rattle.rules.specs.Map.{byDart}
 use Rattle.rules.specs.declared.Session.{Session}
 use Rattle.rules.specs.Reading.{plainAnswer}
 use Rattle.rules.specs.Session.{Left, close}
 use Rattle.rules.specs.Fetch.{PageLeft, pageCall}
+use Rattle.shapes.specs.declared.FacesAnswer.{FacesAnswer}
 use Rattle.stored.specs.Answers.{readNumbers, pageNumbers}
 use Rattle.stored.specs.Layout.{storedSession, sessionBy, standing}
 
@@ -44,3 +45,7 @@ pageLent r bytes t = called (λ s. pageStored (pageCall byDart s bytes t)) (page
 -- the close call on a stored session
 unfoldable pub closeLent : List ℕ → List ℕ → Lent
 closeLent r t = called (λ s. stored (close byDart s t)) (readNumbers (plainAnswer 19 0)) r t
+
+-- a face file's answer: number, place, n
+abbrev pub facesNumbers : FacesAnswer → List ℕ
+facesNumbers a = a .number ∷ a .place ∷ a .darts ∷ []

@@ -11,10 +11,11 @@ ghost use Rattle.rules.specs.Check.{checkAnswer, checkWork};
 ghost use Rattle.rules.specs.Writing.{writeAnswer, writeWork, writeOut};
 ghost use Rattle.rules.specs.Reading.{readAnswer, readTables};
 ghost use Rattle.rules.specs.Report.{reportAnswer, reportWork};
+ghost use Rattle.shapes.specs.Faces.{facesAnswer, facesTables, facesWork};
 ghost use Rattle.rules.specs.Session.{opened};
 ghost use Rattle.stored.specs.Answers.{checkNumbers, writeNumbers, readNumbers, reportNumbers};
 ghost use Rattle.stored.specs.Layout.{storedSession};
-ghost use Rattle.exchange.specs.Rooms.{lent, pageLent, closeLent};
+ghost use Rattle.exchange.specs.Rooms.{lent, pageLent, closeLent, facesNumbers};
 
 // The check of posted tables.
 #[no_mangle]
@@ -151,5 +152,25 @@ pub extern "C" fn kz_report(
 {
     let a = report::report(dim as usize, darts as usize, tables, work);
     *answer = stored::report_numbers(a);
+    a.number
+}
+
+// A face file (OFF text) as a map of dimension 2. The answer's numbers have 64 bits, since a text may be longer than
+// 32 bits can say.
+#[no_mangle]
+pub extern "C" fn kz_faces(
+    text: &[u8],
+    tables: &mut [u16],
+    work: &mut [u16],
+    answer: &mut [u64; 3],
+) -> u32
+    ensures { λ r. ⌜ (r ≡ facesAnswer byDart (now (text .entry)) (now (tables .entry)) (now (work .entry)) .number)
+        × (now (answer .exit)
+        ≡ facesNumbers (facesAnswer byDart (now (text .entry)) (now (tables .entry)) (now (work .entry))))
+        × (now (tables .exit) ≡ facesTables byDart (now (text .entry)) (now (tables .entry)) (now (work .entry)))
+        × (now (work .exit) ≡ facesWork byDart (now (text .entry)) (now (tables .entry)) (now (work .entry))) ⌝ }
+{
+    let a = faces::read(text, tables, work);
+    *answer = [a.number as u64, a.place, a.darts as u64];
     a.number
 }

@@ -62,6 +62,15 @@ mod surface {
             work_length: usize,
             answer: *mut [u32; 2],
         ) -> u32;
+        pub fn kz_faces(
+            text: *const u8,
+            text_length: usize,
+            tables: *mut u16,
+            tables_length: usize,
+            work: *mut u16,
+            work_length: usize,
+            answer: *mut [u64; 3],
+        ) -> u32;
         pub fn kz_write(
             dim: u64,
             darts: u64,
@@ -109,10 +118,10 @@ mod surface {
 /// steps of a reading, which are the place.
 #[derive(Clone, Copy, Debug, PartialEq, Eq)]
 pub struct Refusal {
-    /// The refusal number, 1 to 23, as `kanzhulet.h` lists them.
+    /// The refusal number, 1 to 23 or 26 to 29, as `kanzhulet.h` lists them.
     pub number: u32,
     /// The place that goes with the number: a position in the tables, as [`place`](place()) gives it, a dart, a
-    /// stream's length or the steps done.
+    /// stream's length or the steps done; of a face file a byte of the text or the number of a face.
     pub place: usize,
 }
 
@@ -140,6 +149,13 @@ pub struct CheckAnswer<'a> {
     pub walk_numbers: &'a [u16],
     /// The dart of each walk number.
     pub darts: &'a [u16],
+}
+
+/// The answer of an accepted [`faces`].
+#[derive(Clone, Copy, Debug, PartialEq, Eq)]
+pub struct FacesAnswer {
+    /// The number of darts: two for each corner.
+    pub darts: usize,
 }
 
 /// The answer of an accepted [`write()`].
@@ -212,11 +228,12 @@ pub const fn place(dim: usize, rank: usize, dart: usize) -> usize {
     dart * (dim + 1) + rank
 }
 
-/// A call's number and place as a `Result`. The number that is returned is also the first that is stored.
-fn accepted(number: u32, place: u32) -> Result<(), Refusal> {
+/// A call's number and place, of 32 or 64 bits, as a `Result`. The number that is returned is also the first that is
+/// stored.
+fn accepted(number: u32, place: impl Into<u64>) -> Result<(), Refusal> {
     match number {
         0 => Ok(()),
-        _ => Err(Refusal { number, place: place as usize }),
+        _ => Err(Refusal { number, place: place.into() as usize }),
     }
 }
 
@@ -258,6 +275,44 @@ pub fn check<'a>(
     accepted(number, answer[1])?;
     let (walk_numbers, rest) = work.split_at(darts);
     Ok(CheckAnswer { walk_numbers, darts: &rest[..darts] })
+}
+
+/// Posting from a face file: reads OFF text into the tables of a map of dimension 2 and checks it from root 0.
+/// `kanzhulet.h` says what such a text is. Corners are numbered over all faces in file order; corner c gives the darts
+/// 2c, at its own vertex, and 2c+1, at the next corner of its face. Needs 3n entries of tables and 2n of work room;
+/// longer slices are allowed, and what is past these is neither read nor written. The call needs some 64 KiB of stack.
+///
+/// Refused by 26 over the whole text, at a byte of it or its length; then face by face, at the face's number from 0, by
+/// 27, 28 and 29; then by 2, 3, 4 and 9. After an accepted call and after 9 the tables hold the map, and the work room
+/// is as after [`check`]; every other refusal leaves both unchanged.
+///
+/// ```
+/// let text = b"OFF 4 4 6 # a tetrahedron\n0 0 0\n1 0 0\n0 1 0\n0 0 1\n3 0 2 1\n3 0 1 3\n3 1 2 3\n3 2 0 3\n";
+/// let (mut tables, mut work, mut out) = ([0; 72], [0; 48], [0; 64]);
+/// let darts = kanzhulet::faces(text, &mut tables, &mut work)?.darts;
+/// let sent = kanzhulet::write(2, darts, 0, 0, &tables, &mut work, &mut out)?;
+/// assert_eq!((darts, sent.written), (24, 18));
+/// let refusal = kanzhulet::faces(b"OFF 3 1 3 0 0 0 1 0 0 0 1 0 3 0 1 3", &mut tables, &mut work).unwrap_err();
+/// assert_eq!((refusal.number, refusal.place), (27, 0));
+/// # Ok::<(), kanzhulet::Refusal>(())
+/// ```
+pub fn faces(text: &[u8], tables: &mut [u16], work: &mut [u16]) -> Result<FacesAnswer, Refusal> {
+    let mut answer = [0; 3];
+    // SAFETY: as in `check`; the call may write the tables too, which are borrowed as mutable.
+    let number = unsafe {
+        surface::kz_faces(
+            text.as_ptr(),
+            text.len(),
+            tables.as_mut_ptr(),
+            tables.len(),
+            work.as_mut_ptr(),
+            work.len(),
+            &mut answer,
+        )
+    };
+    let [_, place, darts] = answer;
+    accepted(number, place)?;
+    Ok(FacesAnswer { darts: darts as usize })
 }
 
 /// The paged writer: the bytes of the map's stream from byte `start` on, as many as `out` holds or the stream has. A

@@ -5,17 +5,18 @@ mod maps;
 mod rooms;
 
 use kanzhulet::{
-    PageAnswer, ReadAnswer, Refusal, ReportAnswer, State, WriteAnswer, MAX_DARTS, MAX_STREAM, MAX_TABLES, MAX_WORK,
-    NO_LINK, RECORD,
+    FacesAnswer, PageAnswer, ReadAnswer, Refusal, ReportAnswer, State, WriteAnswer, MAX_DARTS, MAX_STREAM, MAX_TABLES,
+    MAX_WORK, NO_LINK, RECORD,
 };
-use maps::{post_chain, post_free, post_pairs, post_ring, post_squares, tie, Sample, SAMPLES};
-use rooms::{refused, Lent, Map, NUMBERS, SPARE};
+use maps::{post_chain, post_free, post_grid, post_pairs, post_ring, post_squares, tie, Sample, SAMPLES};
+use rooms::{is_number, refused, Lent, Map, NUMBERS, SPARE};
+use std::fmt::Write;
 
 const MOST: usize = usize::MAX;
 /// 0 for a call that would drop the upper half.
 const WIDE: usize = 1 << 32;
 
-/// Each theme is a test of its own, and all of them together see every number from 0 to 23.
+/// Each theme is a test of its own, and all of them together see every number from 0 to 23 and from 26 to 29.
 macro_rules! themes {
     ($($theme:ident),* $(,)?) => {
         mod each {
@@ -29,7 +30,9 @@ macro_rules! themes {
         fn every_number_is_seen() {
             let mut lent = Lent::new();
             $($theme(&mut lent);)*
-            assert_eq!(lent.seen, [true; NUMBERS]);
+            for (number, seen) in lent.seen.into_iter().enumerate() {
+                assert_eq!(seen, is_number(number), "number {number}");
+            }
         }
     };
 }
@@ -59,6 +62,12 @@ themes! {
     known_streams,
     starts_at_and_past_the_end,
     samples_there_and_back,
+    read_each_face_file,
+    face_files_of_grids,
+    face_files_of_squares,
+    rooms_for_a_cube,
+    squares_apart,
+    long_face_files,
     as_many_darts_as_allowed,
     longest_stream,
 }
@@ -346,6 +355,8 @@ static UNFIT: &[(&str, &[u32], &[u16])] = &[
     ("refused by 20", &[4, 20, 0], &[]),
     ("refused by 24", &[4, 24, 0], &[]),
     ("refused by 25", &[4, 25, 0], &[]),
+    ("refused by 26", &[4, 26, 0], &[]),
+    ("refused by 29", &[4, 29, 0], &[]),
     ("running in dimension 0", &[1, 0, 0, 0, 2, 1], &[NO, NO, NO, NO]),
     ("running in dimension 7", &[1, 0, 0, 7, 2, 1], &[NO, NO, NO, NO]),
     ("running without darts", &[1, 0, 0, 1, 0, 1], &[NO, NO, NO, NO]),
@@ -795,6 +806,320 @@ fn samples_there_and_back(lent: &mut Lent) {
     }
 }
 
+// Face files.
+
+/// The text before the faces, and the faces: for three vertices and for five.
+macro_rules! three {
+    ($faces:literal, $rest:literal) => {
+        concat!("OFF 3 ", $faces, " 0\n0 0 0\n1 0 0\n0 1 0\n", $rest).as_bytes()
+    };
+}
+macro_rules! five {
+    ($faces:literal, $rest:literal) => {
+        concat!("OFF 5 ", $faces, " 0 a b c d e f g h i j k l m n o\n", $rest).as_bytes()
+    };
+}
+
+/// Name, text; number and place; darts, of 9 too, which does not tell them.
+type FaceFile = (&'static str, &'static [u8], u32, usize, usize);
+
+static FACE_FILES: &[FaceFile] = &[
+    // Words, numbers, blanks and comments.
+    ("a triangle", three!("1", "3 0 1 2"), 0, 0, 6),
+    ("# within a word", b"OFF 3 1 0 a b c d e f g h i 3#x\n0 1 2", 0, 0, 6),
+    ("blanks and comments", b"#\n\r\n\tOFF#FF\n3\t1\r9 # 9\n0 0 0\n\n1 0\n0 #\n0 1\r\n0\n3\t0 # 9\n1\n2", 0, 0, 6),
+    ("nine digits", b"OFF 000000003 000000001 999999999 a b c d e f g h i 03 00 000000001 2", 0, 0, 6),
+    ("any bytes in a vertex's words", b"OFF 3 1 0 \x0B \xFF \x80 OFF - 1e9 nan .. 0x 3 0 1 2", 0, 0, 6),
+    ("no text", b"", 26, 0, 0),
+    ("blanks alone", b" \t\r\n", 26, 4, 0),
+    ("a comment alone", b"# OFF 3 1 0", 26, 11, 0),
+    ("OFFX", b"OFFX 3 1 0", 26, 0, 0),
+    ("off", b"\n off", 26, 2, 0),
+    ("OF", b"OF F", 26, 0, 0),
+    ("a form feed before OFF", b"\x0COFF 3 1 0", 26, 0, 0),
+    ("OFF alone", b"OFF", 26, 3, 0),
+    ("no edge count", b"OFF 3 1 # 0\n", 26, 12, 0),
+    ("3x", b"OFF 3x 1 0", 26, 4, 0),
+    ("+3", b"OFF 3 +3 0", 26, 6, 0),
+    ("3.0", b"OFF 3 1 3.0", 26, 8, 0),
+    ("ten digits", b"OFF 3 1 0 a b c d e f g h i 3 0 1 0000000002", 26, 34, 0),
+    // Vertices are words, and not lines.
+    ("a fourth word on a vertex line", b"OFF 3 1 0\n0 0 0 9\n1 0 0 9\n0 1 0 9\n3 0 1 2", 28, 0, 0),
+    ("vertices across lines", b"OFF 3 1 0\n0\n0 0 1 0\n0 0 1 0\n3 0 1 2", 0, 0, 6),
+    ("a vertex word missing", b"OFF 1 0 0 a b", 26, 13, 0),
+    ("a vertex word in a comment", b"OFF 1 0 0 a b # c\n", 26, 18, 0),
+    ("more vertices than there can be", b"OFF 999999999 1 0 3 0 1 2", 26, 25, 0),
+    // A face has the rest of its line to itself.
+    ("the rest of a line, and what follows", three!("1", "3 0 1 2 1 2 x # y\n3 0 1"), 0, 0, 6),
+    ("two faces on one line", three!("2", "3 0 1 2 3 0 2 1"), 26, 43, 0),
+    ("two faces on two lines", three!("2", "3 0 1 2 3 0 2\n3 0 2 1\n"), 0, 0, 12),
+    ("CR ends no line", three!("2", "3 0 1 2\r3 0 2 1"), 26, 43, 0),
+    ("0 corners, and the rest of the line", three!("2", "0 junk\n3 0 1 2"), 28, 0, 0),
+    ("a face missing", three!("2", "3 0 1 2\n "), 26, 37, 0),
+    ("a corner missing", three!("1", "3 0 1"), 26, 33, 0),
+    ("a corner malformed", three!("1", "3 0 1 -2"), 26, 34, 0),
+    ("more faces than there can be", three!("999999999", "3 0 1 2\n"), 26, 44, 0),
+    ("more corners than there can be", three!("1", "999999999 0 1 2\n"), 26, 44, 0),
+    // 26 anywhere comes before all others; then the first face that is refused, and of its faults 27, 28, 29.
+    ("26 in a later face", three!("2", "2 0 9\n3 0 1 x"), 26, 40, 0),
+    ("27", three!("1", "3 0 1 3"), 27, 0, 0),
+    ("27 in face 1", three!("2", "3 0 1 2\n3 0 999999999 1"), 27, 1, 0),
+    ("27 without vertices", b"OFF 0 1 0 3 0 1 2", 27, 0, 0),
+    ("two corners", three!("1", "2 0 1"), 28, 0, 0),
+    ("one corner", three!("1", "1 0"), 28, 0, 0),
+    ("equal neighbours", three!("1", "4 0 1 1 2"), 28, 0, 0),
+    ("last and first equal", three!("2", "3 0 1 2\n4 1 2 0 1"), 28, 1, 0),
+    ("27 before 28", three!("1", "2 0 9"), 27, 0, 0),
+    ("28 before 27 of a later face", three!("2", "2 0 1\n3 0 1 9"), 28, 0, 0),
+    ("a side of three faces", five!("3", "3 0 1 2\n3 1 0 3\n3 0 1 4"), 29, 2, 0),
+    ("a side three times in one face", five!("1", "5 0 1 0 1 2"), 29, 0, 0),
+    ("a side once, then twice in one face", five!("2", "3 0 1 2\n6 0 1 3 1 0 4"), 29, 1, 0),
+    ("27 before 29", five!("3", "3 0 1 2\n3 1 0 3\n3 0 1 5"), 27, 2, 0),
+    ("28 before 29", five!("3", "3 0 1 2\n3 1 0 3\n4 0 1 4 0"), 28, 2, 0),
+    ("29 before 28 of a later face", five!("4", "3 0 1 2\n3 1 0 3\n3 0 1 4\n2 0 1"), 29, 2, 0),
+    // Twice is well, in one face and in one direction too.
+    ("sides twice in one face", three!("1", "4 0 1 2 1"), 0, 0, 8),
+    ("a side twice in one direction", five!("2", "3 0 1 2\n3 0 1 3"), 0, 0, 12),
+    // Then 2, and 9 at the end.
+    ("nothing", b"OFF 0 0 0", 2, 0, 0),
+    ("no faces", three!("0", "3 0 1 2"), 2, 0, 0),
+    ("two triangles that meet at a vertex", five!("2", "3 0 1 2\n3 0 3 4"), 9, 6, 12),
+    (
+        "the second of three apart",
+        b"OFF 9 4 0 a b c d e f g h i j k l m n o p q r s t u v w x y z -\n3 0 1 2\n3 3 4 5\n3 0 2 1\n3 6 7 8",
+        9,
+        6,
+        24,
+    ),
+];
+
+/// Rooms for a map of dimension 2 with so many darts, and `SPARE` entries more.
+fn lend_rooms_for(lent: &mut Lent, darts: usize) {
+    lent.posted.lend(3 * darts + SPARE);
+    lent.work.lend(2 * darts + SPARE);
+}
+
+/// The lent text is answered so.
+#[track_caller]
+fn expect_faces(lent: &mut Lent, expected: Result<FacesAnswer, Refusal>) {
+    let given = lent.faces();
+    lent.expect(given, expected);
+}
+
+/// The lent text is answered so, with 0 or 9, and what the tables then hold is checked once more: the answer and the
+/// work room are the check's from root 0.
+#[track_caller]
+fn expect_as_checked(lent: &mut Lent, darts: usize, expected: Result<FacesAnswer, Refusal>) {
+    expect_faces(lent, expected);
+    lent.must(lent.darts_of_faces(&expected) == darts, "the map has so many darts");
+    let work = lent.work.at()[..2 * darts].to_vec();
+    let checked = lent.check(Map { dim: 2, darts }, 0);
+    lent.expect(checked, expected.map(|_| ()));
+    lent.must(lent.work.at()[..2 * darts] == work, "the work room is the check's");
+}
+
+fn read_each_face_file(lent: &mut Lent) {
+    for &(name, text, number, place, darts) in FACE_FILES {
+        lent.begin(name);
+        lent.text.lend_copy(text);
+        lend_rooms_for(lent, darts);
+        let expected = if number == 0 { Ok(FacesAnswer { darts }) } else { refused(number, place) };
+        match darts {
+            0 => expect_faces(lent, expected),
+            _ => expect_as_checked(lent, darts, expected),
+        }
+    }
+}
+
+/// OFF text of these faces; the vertices are all at one place.
+fn off_text(vertices: usize, faces: &[Vec<usize>]) -> Vec<u8> {
+    let mut text = format!("OFF {} {} 0\n{}", vertices, faces.len(), "0.25 -1.5 10\n".repeat(vertices));
+    for face in faces {
+        write!(text, "{}", face.len()).unwrap();
+        for vertex in face {
+            write!(text, " {vertex}").unwrap();
+        }
+        text.push('\n');
+    }
+    text.into_bytes()
+}
+
+/// Squares in a grid or, wrapped, a torus, in the order and with the sides of `post_grid`.
+fn lend_grid_text(lent: &mut Lent, columns: usize, rows: usize, wrapped: bool) {
+    let (across, up) = if wrapped { (columns, rows) } else { (columns + 1, rows + 1) };
+    let mut faces = Vec::new();
+    for (y, x) in (0..rows).flat_map(|y| (0..columns).map(move |x| (y, x))) {
+        let (next, above) = ((x + 1) % across, (y + 1) % up * across);
+        faces.push(vec![y * across + x, y * across + next, above + next, above + x]);
+    }
+    lent.text.lend_copy(&off_text(across * up, &faces));
+}
+
+/// The lent text gives these tables.
+#[track_caller]
+fn expect_tables(lent: &mut Lent, m: Map, tables: &[u16]) {
+    lend_rooms_for(lent, m.darts);
+    expect_faces(lent, Ok(FacesAnswer { darts: m.darts }));
+    lent.must(lent.posted.at()[..m.entries()] == *tables, "the tables are those known");
+    expect_as_checked(lent, m.darts, Ok(FacesAnswer { darts: m.darts }));
+}
+
+/// The last one has as many darts as a map may have.
+fn face_files_of_grids(lent: &mut Lent) {
+    lent.begin("face files of grids");
+    let grids = [(1, 1, false), (3, 2, false), (1, 7, false), (3, 3, true), (5, 4, true), (32, 16, true)];
+    for (columns, rows, wrapped) in grids {
+        let m = post_grid(lent, columns, rows, wrapped);
+        let tables = lent.posted.at()[..m.entries()].to_vec();
+        lend_grid_text(lent, columns, rows, wrapped);
+        expect_tables(lent, m, &tables);
+    }
+}
+
+const CUBE: &[u8] = b"OFF\n8 6 12\n0 0 0\n1 0 0\n1 1 0\n0 1 0\n0 0 1\n1 0 1\n1 1 1\n0 1 1\n\
+    4 0 3 2 1\n4 4 5 6 7\n4 0 1 5 4\n4 1 2 6 5\n4 2 3 7 6\n4 3 0 4 7\n";
+const BOX: &[u8] = b"OFF\n8 5 12\n0 0 0\n1 0 0\n1 1 0\n0 1 0\n0 0 1\n1 0 1\n1 1 1\n0 1 1\n\
+    4 0 3 2 1\n4 0 1 5 4\n4 1 2 6 5\n4 2 3 7 6\n4 3 0 4 7\n";
+const STRIP: &[u8] = b"OFF 6 3 9 a b c d e f g h i j k l m n o p q r\n4 0 1 3 2\n4 2 3 5 4\n4 4 5 0 1\n";
+const HALF: &[u8] = b"OFF 4 3 6 a b c d e f g h i j k l\n4 0 1 2 3\n4 0 1 3 2\n4 0 2 1 3\n";
+const FOLDED: &[u8] = three!("1", "4 0 1 2 1\n");
+
+/// Joined sides: two corners, and whether the sides of these run in one direction.
+type Joins = &'static [(usize, usize, bool)];
+
+const CUBE_JOINS: Joins = &[
+    (0, 20, false),
+    (1, 16, false),
+    (2, 12, false),
+    (3, 8, false),
+    (4, 10, false),
+    (5, 14, false),
+    (6, 18, false),
+    (7, 22, false),
+    (9, 15, false),
+    (11, 21, false),
+    (13, 19, false),
+    (17, 23, false),
+];
+const BOX_JOINS: Joins = &[
+    (0, 16, false),
+    (1, 12, false),
+    (2, 8, false),
+    (3, 4, false),
+    (5, 11, false),
+    (7, 17, false),
+    (9, 15, false),
+    (13, 19, false),
+];
+const STRIP_JOINS: Joins = &[(0, 10, true), (2, 4, false), (6, 8, false)];
+const HALF_JOINS: Joins = &[(0, 4, true), (1, 9, false), (2, 6, false), (3, 11, true), (5, 10, true), (7, 8, false)];
+const FOLDED_JOINS: Joins = &[(0, 3, false), (1, 2, false)];
+
+/// Name, text, squares and their joined sides; cells, free pairs, orientable or not.
+type SquaresFile = (&'static str, &'static [u8], usize, Joins, [usize; 3], usize, bool);
+
+static SQUARES_FILES: &[SquaresFile] = &[
+    ("cube", CUBE, 6, CUBE_JOINS, [8, 12, 6], 0, true),
+    ("open box", BOX, 5, BOX_JOINS, [8, 12, 5], 8, true),
+    ("Moebius strip", STRIP, 3, STRIP_JOINS, [6, 9, 3], 12, false),
+    ("half a cube, closed", HALF, 3, HALF_JOINS, [4, 6, 3], 0, false),
+    ("a square folded up", FOLDED, 1, FOLDED_JOINS, [3, 2, 1], 0, true),
+];
+
+/// From text to tables, to report and stream and back. A file's squares have their darts numbered as `post_squares`
+/// numbers them.
+fn face_files_of_squares(lent: &mut Lent) {
+    for &(name, text, squares, joins, cells, free, orientable) in SQUARES_FILES {
+        lent.begin(name);
+        let m = post_squares(lent, squares);
+        for &(c, e, alike) in joins {
+            let (first, second) = if alike { (2 * e, 2 * e + 1) } else { (2 * e + 1, 2 * e) };
+            tie(lent, m, 2, 2 * c, first);
+            tie(lent, m, 2, 2 * c + 1, second);
+        }
+        let tables = lent.posted.at()[..m.entries()].to_vec();
+        lent.text.lend_copy(text);
+        expect_tables(lent, m, &tables);
+        let [vertices, edges, faces] = cells;
+        let reported = lent.report(m);
+        lent.expect(reported, Ok(ReportAnswer { cells: [vertices, edges, faces, 0, 0, 0, 0], free, orientable }));
+        there_and_back(lent, m, 0);
+    }
+}
+
+/// The cube's numbering from dart 0, and rooms that are as long as it needs or one entry short. What is short is told
+/// after the faces and before 9, the tables first.
+fn rooms_for_a_cube(lent: &mut Lent) {
+    let numbers = [
+        0, 1, 4, 5, 7, 6, 3, 2, 42, 43, 46, 47, 45, 44, 41, 40, 16, 17, 20, 21, 23, 22, 19, 18, 32, 33, 36, 37, 39, 38,
+        35, 34, 25, 24, 26, 27, 30, 31, 29, 28, 9, 8, 10, 11, 14, 15, 13, 12,
+    ];
+    lent.begin("rooms for a cube");
+    lent.text.lend_copy(CUBE);
+    lent.posted.lend(144);
+    lent.work.lend(96);
+    expect_faces(lent, Ok(FacesAnswer { darts: 48 }));
+    lent.must(lent.work.at()[..48] == numbers, "the numbering is the one known");
+    for (tables, work, number) in [(143, 96, 3), (144, 95, 4), (143, 95, 3), (0, 96, 3), (144, 0, 4), (0, 0, 3)] {
+        lent.posted.lend(tables);
+        lent.work.lend(work);
+        expect_faces(lent, refused(number, 0));
+    }
+    lent.text.lend_copy(three!("2", "3 0 1 2\n3 0 1 3"));
+    expect_faces(lent, refused(27, 1));
+}
+
+/// Two squares that have no side in common: the tables hold both, though 9 does not tell how many darts they have.
+fn squares_apart(lent: &mut Lent) {
+    lent.begin("squares apart");
+    let m = post_squares(lent, 2);
+    let tables = lent.posted.at()[..48].to_vec();
+    lent.text.lend_copy(b"OFF 8 2 0 a b c d e f g h i j k l m n o p q r s t u v w x\n4 0 1 2 3\n4 4 5 6 7\n");
+    lent.posted.lend(48);
+    lent.work.lend(32);
+    expect_faces(lent, refused(9, 8));
+    lent.must(lent.work.at() == [NO_LINK; 32] && lent.posted.at() == tables, "the tables hold both squares");
+    let checked = lent.check(m, 8);
+    lent.expect(checked, refused(9, 0));
+    lent.work.shorten(31);
+    expect_faces(lent, refused(4, 0));
+}
+
+/// A strip of triangles k, k+1, k+2, each with a side of the next, in which some faces are others: how many faces, the
+/// others by their number, and number and place.
+type Strip = (usize, &'static [(usize, [usize; 3])], u32, usize);
+
+static STRIPS: &[Strip] = &[
+    (682, &[], 0, 0),
+    (683, &[], 2, 0),
+    (682, &[(681, [1, 2, 684])], 29, 681),
+    (684, &[(683, [1, 2, 686])], 29, 683),
+    (2101, &[(1000, [0, 2, 2103])], 2, 0),
+    (2101, &[(1000, [0, 2, 2103]), (2100, [2, 0, 2104])], 29, 2100),
+    (2101, &[(1000, [0, 2, 2103]), (1400, [2, 0, 2104]), (1500, [5, 5, 6])], 29, 1400),
+    (2101, &[(1000, [0, 2, 2103]), (1500, [5, 5, 6]), (2100, [2, 0, 2104])], 28, 1500),
+    (2101, &[(700, [9, 10, 11]), (2000, [0, 1, 2105])], 29, 700),
+    (2101, &[(2000, [0, 1, 2105])], 27, 2000),
+];
+
+/// Of more than 2,048 corners too the faces are looked through before 2 is told, with uses of a side far apart.
+fn long_face_files(lent: &mut Lent) {
+    lent.begin("long face files");
+    for &(faces, others, number, place) in STRIPS {
+        let mut strip: Vec<_> = (0..faces).map(|k| vec![k, k + 1, k + 2]).collect();
+        for &(face, corners) in others {
+            strip[face] = corners.to_vec();
+        }
+        lent.text.lend_copy(&off_text(faces + 4, &strip));
+        let darts = if number == 0 { 6 * faces } else { 0 };
+        lend_rooms_for(lent, darts);
+        match number {
+            0 => expect_as_checked(lent, darts, Ok(FacesAnswer { darts })),
+            _ => expect_faces(lent, refused(number, place)),
+        }
+    }
+}
+
 // Limits.
 
 fn as_many_darts_as_allowed(lent: &mut Lent) {
@@ -829,18 +1154,18 @@ fn longest_stream(lent: &mut Lent) {
 #[test]
 fn refusals_print_the_texts_of_the_guide() {
     let guide = include_str!("../../../docs/GUIDE.md");
-    let mut listed = 0;
+    let mut listed = Vec::new();
     for row in guide.lines().filter_map(|line| line.strip_prefix("| ")?.strip_suffix(" |")) {
         let (first, text) = row.split_once(" | ").expect("a row of two columns");
         if let Ok(number) = first.parse() {
             let refusal = Refusal { number, place: 7 };
             assert_eq!(refusal.message(), text);
             assert_eq!(refusal.to_string(), format!("refused {number} at 7: {text}"));
-            assert_eq!(number, listed);
-            listed += 1;
+            listed.push(number as usize);
         }
     }
-    assert_eq!(listed as usize, NUMBERS);
-    let none = Refusal { number: listed, place: 0 };
-    assert_eq!(none.to_string(), "refused 24 at 0: there is no refusal of this number");
+    assert_eq!(listed, (0..NUMBERS).filter(|k| is_number(*k)).collect::<Vec<_>>());
+    for number in [24, 25, NUMBERS as u32, u32::MAX] {
+        assert_eq!(Refusal { number, place: 0 }.message(), "there is no refusal of this number");
+    }
 }

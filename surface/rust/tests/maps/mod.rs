@@ -72,7 +72,7 @@ fn join_sides(lent: &mut Lent, m: Map, q: usize, r: usize, s: usize, twisted: us
 }
 
 /// A grid of squares; wrapped, a torus.
-fn post_grid(lent: &mut Lent, wide: usize, high: usize, wrapped: bool) -> Map {
+pub fn post_grid(lent: &mut Lent, wide: usize, high: usize, wrapped: bool) -> Map {
     let m = post_squares(lent, wide * high);
     for y in 0..high {
         for x in 0..wide {

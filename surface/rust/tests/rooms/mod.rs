@@ -3,14 +3,20 @@
 //! The cases in `calls.rs` add what they know about their own input.
 
 use kanzhulet::{
-    PageAnswer, ReadAnswer, Refusal, ReportAnswer, Session, State, WriteAnswer, MAX_DARTS, MAX_DIM, NO_LINK, RECORD,
+    FacesAnswer, PageAnswer, ReadAnswer, Refusal, ReportAnswer, Session, State, WriteAnswer, MAX_DARTS, MAX_DIM,
+    NO_LINK, RECORD,
 };
 
 pub const GUARD: usize = 32;
 pub const SPARE: usize = 32;
 /// 0 and the refusal numbers.
-pub const NUMBERS: usize = 24;
+pub const NUMBERS: usize = 30;
 const CANARY: u8 = 0xA5;
+
+/// Is it 0 or a refusal's? Between them are two numbers that are not.
+pub fn is_number(number: usize) -> bool {
+    number < NUMBERS && number != 24 && number != 25
+}
 
 /// A slice between two guards, and what it held before the call.
 pub struct Room<T> {
@@ -117,6 +123,7 @@ pub struct Lent {
     pub work: Room<u16>,
     pub out: Room<u8>,
     pub page: Room<u8>,
+    pub text: Room<u8>,
     sessions: [Session; 3],
 }
 
@@ -134,6 +141,7 @@ impl Lent {
             work: Room::new(),
             out: Room::new(),
             page: Room::new(),
+            text: Room::new(),
             sessions: [beside(), Session::open(), beside()],
         }
     }
@@ -162,29 +170,39 @@ impl Lent {
         self.work.before_call();
         self.out.before_call();
         self.page.before_call();
+        self.text.before_call();
     }
 
-    /// After every call: the guards stand, rooms that no call writes are kept, and the number is one that such a call
-    /// may give.
+    /// After every call: the guards stand, rooms that no call writes are kept, and the number is a number.
     #[track_caller]
-    fn after_call<T>(&mut self, answer: &Result<T, Refusal>, most: u32) {
+    fn after_any<T>(&mut self, answer: &Result<T, Refusal>) {
         let guarded = self.posted.guarded()
             && self.built.guarded()
             && self.work.guarded()
             && self.out.guarded()
-            && self.page.guarded();
+            && self.page.guarded()
+            && self.text.guarded();
         self.must(guarded, "the guards stand");
         self.must(
             self.sessions[0].record() == BESIDE && self.sessions[2].record() == BESIDE,
             "the sessions beside stand",
         );
-        self.must(self.posted.kept() && self.page.kept(), "what is lent for reading is kept");
+        self.must(self.page.kept() && self.text.kept(), "what is lent for reading is kept");
         let number = number_of(answer);
-        self.must(number <= most, "such a call gives this number");
+        self.must(is_number(number as usize), "a refusal has this number");
         self.seen[number as usize] = true;
         if let Err(refusal) = answer {
             self.must(refusal.place == 0 || !matches!(number, 1..=5 | 19 | 20), "the number has no place");
         }
+    }
+
+    /// After every call but that of a face file: posted tables are kept, and the number is one that such a call may
+    /// give.
+    #[track_caller]
+    fn after_call<T>(&mut self, answer: &Result<T, Refusal>, most: u32) {
+        self.after_any(answer);
+        self.must(self.posted.kept(), "posted tables are kept");
+        self.must(number_of(answer) <= most, "such a call gives this number");
     }
 
     /// After a call that takes a map: the rooms of readings are kept, and the work room is as the number says.
@@ -218,6 +236,36 @@ impl Lent {
         self.must(numbers == self.work.at()[..m.darts], "the first half is the walk numbers");
         self.must(darts == self.work.at()[m.darts..2 * m.darts], "the second half is the darts");
         Ok(())
+    }
+
+    /// The n of the map that a face file left in the tables. After 9 it is not told: then the first 2n of the work room
+    /// are `NO_LINK`, and no other entry of a room that was lent afresh is.
+    pub fn darts_of_faces(&self, answer: &Result<FacesAnswer, Refusal>) -> usize {
+        match answer {
+            Ok(a) => a.darts,
+            Err(_) => self.work.at().iter().take_while(|entry| **entry == NO_LINK).count() / 2,
+        }
+    }
+
+    #[track_caller]
+    pub fn faces(&mut self) -> Result<FacesAnswer, Refusal> {
+        self.before_call();
+        let answer = kanzhulet::faces(self.text.at(), self.posted.at_mut(), self.work.at_mut());
+        self.after_any(&answer);
+        let number = number_of(&answer);
+        self.must(matches!(number, 0 | 2..=4 | 9 | 26..=29), "a face file gives this number");
+        self.must(self.out.kept() && self.built.kept(), "a face file has two rooms to write");
+        if number != 0 && number != 9 {
+            self.must(self.posted.kept() && self.work.kept(), "all but 0 and 9 change nothing");
+            return answer;
+        }
+        let m = Map { dim: 2, darts: self.darts_of_faces(&answer) };
+        self.must(m.darts >= 6 && m.darts % 2 == 0, "a corner has two darts, and a face three corners");
+        self.must(self.posted.kept_from(m.entries()), "the tables are kept past 3n");
+        let links = &self.posted.at()[..m.entries()];
+        self.must(links.iter().all(|e| (*e as usize) < m.darts), "every entry is a dart");
+        self.after_walk(&answer, m, 0);
+        answer
     }
 
     #[track_caller]

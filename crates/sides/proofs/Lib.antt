@@ -1,0 +1,4 @@
+pub mod Paths
+pub mod Thirds
+pub mod Sweeps
+pub mod Blocks
