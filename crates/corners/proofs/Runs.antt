@@ -6,42 +6,13 @@ use native.Mathlib.Omega.{arith}
 use lib.ListN.{length, getD, length-append}
 use lib.Dec.{leb}
 use borrow.Author.Tests.{ne-eqb, lt-leb}
-use Rattle.shapes.specs.Text.{lineEnd, Read, good, next, number, several, face}
+use Rattle.shapes.specs.Text.{lineEnd, good, next, number, several, face}
 use Rattle.text.specs.Leaves.{knownOf}
-use Rattle.text.proofs.Readings.{next-good}
+use Rattle.text.proofs.Readings.{next-good, several-split, several-length}
 use Rattle.shapes.specs.Faces.{Corner, cornersTo, corners, allCorners}
 use Rattle.corners.specs.declared.Position.{Position}
 use Rattle.corners.specs.declared.Step.{Step}
 use Rattle.corners.specs.Steps.{known, begun, openedBy, openedOf, stepBy, stepOf, positionAfter, stepAt}
-
--- several readings of which there is one more
-pub record Split {A : Type 0} (read : ℕ → Read A) (k p : ℕ) (xs : List A) (q : ℕ) : Type 0 where
-  pub head : A
-  pub rest : List A
-  pub after : ℕ
-  pub one : read p ≡ good head after
-  pub others : several read k after ≡ good rest q
-  pub all : xs ≡ head ∷ rest
-
-pub several-split : {A : Type 0} (read : ℕ → Read A) (k p : ℕ) (xs : List A) (q : ℕ) → several read (suc k) p ≡ good xs q → Split read k p xs q
-unfolding several
-several-split {A = A} read k p xs q e =
-    let a = next-good (read p) _ xs q e in
-    let b = next-good (several read k (a .after)) _ xs q (a .two) in
-    record {
-      head = a .what;
-      rest = b .what;
-      after = a .after;
-      one = a .one;
-      others = b .one ∙ ap (λ (x : ℕ). good (b .what) x) (ends (a .what ∷ b .what) xs (b .after) q (b .two));
-      all = sym (what (a .what ∷ b .what) xs (b .after) q (b .two));
-    }
-  where
-    ends : (x y : List A) (i j : ℕ) → good x i ≡ good y j → i ≡ j
-    ends x y i j e = cc
-
-    what : (x y : List A) (i j : ℕ) → good x i ≡ good y j → x ≡ y
-    what x y i j e = cc
 
 -- what a step tells of a corner
 pub record Use : Type 0 where
@@ -105,13 +76,6 @@ module _ (t : List ℕ) where
   run-at (turn s e r) zero h = rw e
   run-at (turn s e r) (suc j) h = rw e (run-at r j (omega arith))
 
-  length-several : (k e : ℕ) (vs : List ℕ) (q : ℕ) → several (number t) k e ≡ good vs q → length vs ≡ k
-  unfolding several
-  length-several zero e vs q r = let a : vs ≡ [] = cc in rw a
-  length-several (suc k) e vs q r =
-      let s = several-split (number t) k e vs q r in
-      rw (s .all) (ap suc (length-several k (s .after) (s .rest) q (s .others)))
-
   -- the rest of a face
   face-rest : (k e f c o : ℕ) (vs : List ℕ) (q : ℕ) → several (number t) k e ≡ good vs q
       → Run (suc k) (record { at = e; left = suc k; first = f; own = o }) (map bare (cornersTo f c (o ∷ vs))) (begun (lineEnd t q))
@@ -124,7 +88,7 @@ module _ (t : List ℕ) where
       let s = several-split (number t) k e vs q r in
       let m = face-rest k (s .after) f c (s .head) (s .rest) q (s .others) in
       let z = more-step e k f o (s .head) (s .after) (s .one) in
-      let l : 2 + length (s .rest) ≡ suc (suc k) = rw (length-several k (s .after) (s .rest) q (s .others)) (omega arith) in
+      let l : 2 + length (s .rest) ≡ suc (suc k) = rw (several-length (number t) k (s .after) (s .rest) q (s .others)) (omega arith) in
       rw (s .all, l)
       (turn (record { own = o; far = s .head; left = suc (suc k); next = record { at = s .after; left = suc k; first = f; own = s .head } }) z m)
 
@@ -187,7 +151,7 @@ module _ (t : List ℕ) where
           let s = several-split (number t) k b (v ∷ vs) q y in
           let ev : s .head ≡ v = let w = s .all in cc in
           let er : s .rest ≡ vs = let w = s .all in cc in
-          let l : length vs ≡ k = rw er at (length-several k (s .after) (s .rest) q (s .others)) in
+          let l : length vs ≡ k = rw er at (several-length (number t) k (s .after) (s .rest) q (s .others)) in
           let r = rw er at (face-rest k (s .after) v c v (s .rest) q (s .others)) in
           rw (l, z) (run-first (open-first p k b v (s .after) x (rw ev at (s .one))) r)
 

@@ -24,6 +24,7 @@ pub struct Step {
     pub next: Position,
 }
 
+// Where a face begins.
 pub fn begin(start: usize) -> Position
     ensures { λ r. ⌜ r ≡ begun start ⌝ }
 {
@@ -53,6 +54,7 @@ fn opened(text: &[u8], c: Position) -> Position
     }
 }
 
+// A corner's side: the last one's goes to the first. After it the rest of the line is passed over.
 pub fn turn(text: &[u8], c: Position) -> Step
     requires { ⌜ Fresh (now text) (c .at) ⌝ }
     ensures { λ r. ⌜ r ≡ stepOf (now (text .entry)) c ⌝ }

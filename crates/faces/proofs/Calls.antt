@@ -5,18 +5,16 @@ use mathlib.Core.Logic.{_≢_, _⊎_, inl, inr}
 use mathlib.Core.List.{List}
 use mathlib.Core.Bool.{Bool}
 use native.Mathlib.Omega.{arith}
-use native.Mathlib.Decide.{decLe}
 use lib.ListN.{length}
-use borrow.Author.Tests.{lt-leb}
 use Rattle.shapes.specs.declared.FacesAnswer.{FacesAnswer}
 use Rattle.rules.specs.Lists.{countBelow, first}
 use Rattle.rules.specs.Map.{byDart, size, Limits}
 use Rattle.rules.specs.Check.{Verdict, verdict, checkWork}
 use Rattle.shapes.specs.Text.{Read, bad, good, file}
-use Rattle.shapes.specs.Faces.{refusal, Corner, allCorners, dartsOf, mapOn, cornersOf, readVerdict, facesAnswerOf, facesAnswer, facesTables, facesWork}
+use Rattle.shapes.specs.Faces.{refusal, allCorners, dartsOf, mapOn, cornersOf, readVerdict, facesAnswerOf, facesAnswer, facesTables, facesWork}
 use Rattle.rules.proofs.Lists.{first-le}
 use Rattle.shapes.proofs.Built.{built-length, built-valid}
-use Rattle.shapes.proofs.Posted.{valid-verdict}
+use Rattle.shapes.proofs.Posted.{valid-verdict, on-length}
 use Rattle.text.specs.Leaves.{Fresh}
 use Rattle.survey.specs.declared.Plan.{Plan}
 use Rattle.survey.specs.declared.Outline as outline
@@ -35,15 +33,6 @@ use Rattle.faces.proofs.Held.{held, lefts-held}
 -- the first of n that passes, where it is not below n
 pub past-first : (g : ℕ → Bool) (n c : ℕ) → c ≡ first g n → n ≤ c → first g n ≡ n
 past-first g n c e h = omega (arith, e, first-le g n)
-
--- the map in front leaves the tables' length
-map-length : (cs : List Corner) (t : List ℕ) → length (mapOn byDart cs t) ≡ length t
-unfolding mapOn
-map-length cs t = go (decLe (size 2 (dartsOf cs)) (length t))
-  where
-    go : Dec (size 2 (dartsOf cs) ≤ length t) → length (mapOn byDart cs t) ≡ length t
-    go (yes h) = built-length byDart cs t h
-    go (no h) = rw (lt-leb (size 2 (dartsOf cs)) (length t) (omega arith))
 
 module _ {text : List ℕ} {p : Plan} (planned : Planned text p) where
   filed : Filed text p (planned .end)
@@ -84,11 +73,11 @@ module _ {text : List ℕ} {p : Plan} (planned : Planned text p) where
           }
 
       module _ (few : p .corners ≤ 2048) where
-        pub post-misfit : (t work : List ℕ) (m : ℕ) (r : FacesAnswer) → m ≡ misfitOf (p .corners) (length t) (length work) → m ≢ 0 → m ≢ 9
+        post-misfit : (t work : List ℕ) (m : ℕ) (r : FacesAnswer) → m ≡ misfitOf (p .corners) (length t) (length work) → m ≢ 0 → m ≢ 9
             → r ≡ refusal m 0 → Posts text t work r t work
         post-misfit t work m r em h h9 er =
             let cs = allCorners 0 (filed .what .faces) in
-            let long : length (mapOn byDart cs t) ≡ length t = map-length cs t in
+            let long : length (mapOn byDart cs t) ≡ length t = on-length byDart cs t in
             refused-posts text t work m 0 r er h9 (clean .verdict byDart t (length work)
             ∙ (ap (λ (n : ℕ). verdict byDart 2 n 0 (mapOn byDart cs t) (length work)) darts
             ∙ misfit-verdict byDart (p .corners) (mapOn byDart cs t) (length work) m few (em ∙ rw (← long)) h))

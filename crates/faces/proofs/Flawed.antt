@@ -13,6 +13,7 @@ use Rattle.rules.specs.Lists.{someBelow, countBelow}
 use Rattle.rules.specs.Check.{Verdict, refuseIf}
 use Rattle.shapes.specs.Faces.{Corner, allCorners, cornerAt, large, poor, third, facesVerdict}
 use Rattle.rules.proofs.Lists.{some-below, below-some, not-both}
+use Rattle.shapes.proofs.Counts.{count-add, count-same}
 use Rattle.shapes.proofs.Corners.{length-all, length-from, cornerTo, cornerOf, corner-here, corner-later, face-three}
 use Rattle.survey.specs.declared.Flaw.{Flaw}
 use Rattle.survey.specs.Flaws.{flawOf, judgedOf, flawsFrom}
@@ -171,17 +172,6 @@ pub flaw-face : (vertices : ℕ) (cs : List Corner) (later : Verdict) (k c : ℕ
 unfolding facesVerdict refuseIf
 flaw-face vertices cs later k c f rest nr (by27 x) = rw x
 flaw-face vertices cs later k c f rest nr (by28 x y) = rw (x, y)
-
--- counting below a sum
-pub count-add : (a b : ℕ) (g : ℕ → Bool) → countBelow (a + b) g ≡ countBelow a g + countBelow b (λ j. g (a + j))
-unfolding countBelow
-count-add a zero g = let z : a + 0 ≡ a = omega arith in rw z (omega arith)
-count-add a (suc b) g = let z : a + suc b ≡ suc (a + b) = omega arith in rw z (omega (arith, count-add a b g))
-
-pub count-same : (k : ℕ) (f g : ℕ → Bool) → ((i : ℕ) → i < k → f i ≡ g i) → countBelow k f ≡ countBelow k g
-unfolding countBelow
-count-same zero f g h = refl
-count-same (suc k) f g h = rw (h k (omega arith), count-same k f g (λ i l. h i (omega arith)))
 
 -- of the corners of a face the last one alone is the last
 last-none : (n k : ℕ) → k < n → countBelow k (λ j. leb (n - j) 1) ≡ 0

@@ -13,12 +13,13 @@ use borrow.Author.Tests.{eq-eqb, lt-ltb, le-ltb, eqb-true, leb-false}
 use Rattle.rules.specs.Lists.{countBelow}
 use Rattle.shapes.specs.Text.{good, several, face}
 use Rattle.shapes.specs.Faces.{Corner, corners, allCorners, cornerAt, alike, some, large, poor, third}
+use Rattle.shapes.proofs.Counts.{count-same}
 use Rattle.shapes.proofs.Corners.{length-all, length-from, in-face, InFace, own-at, far-at, far-last, some-none, face-three}
 use Rattle.shapes.proofs.Built.{alike-cases, alike-straight, alike-crossed}
 use Rattle.corners.specs.Steps.{begun, stepAt, lastAt}
 use Rattle.corners.proofs.Runs.{Use, bare, useOf, Full, none, more, run-at, faces-run}
 use Rattle.sides.specs.Sides.{keyOf, keyAt, thirdUse}
-use Rattle.faces.proofs.Flawed.{Sound, sound-none, sound-more, count-same, faceAt, count-faces}
+use Rattle.faces.proofs.Flawed.{Sound, sound-none, sound-more, faceAt, count-faces}
 
 -- two tests that pass together are one
 same-test : (a b : Bool) → (a ≡ true → b ≡ true) → (b ≡ true → a ≡ true) → a ≡ b
@@ -76,7 +77,7 @@ pub record Below (bound : ℕ) (k : Corner) : Type 0 where
   pub own : k .own < bound
   pub far : k .far < bound
 
-pub alike-key : (a b : Corner) → Below 4294967296 a → Below 4294967296 b → alike a b ≡ eqb (keyOf (a .own) (a .far)) (keyOf (b .own) (b .far))
+alike-key : (a b : Corner) → Below 4294967296 a → Below 4294967296 b → alike a b ≡ eqb (keyOf (a .own) (a .far)) (keyOf (b .own) (b .far))
 alike-key a b p q =
     same-test (alike a b) (eqb (keyOf (a .own) (a .far)) (keyOf (b .own) (b .far))) (λ e. to (alike-cases a b e))
     (λ e. from (key-two (a .own) (a .far) (b .own) (b .far) (p .own) (p .far) (q .own) (q .far)
@@ -101,12 +102,12 @@ all-append c (f ∷ fs) gs =
     ap (λ (l : List Corner). corners c f ++ l) (all-append (c + length f) fs gs ∙ rw z)
     ∙ sym (append-assoc (corners c f) (allCorners (c + length f) fs) (allCorners (c + length (allCorners 0 (f ∷ fs))) gs))
 
-pub front-corner : (fs gs : List (List ℕ)) (j : ℕ) → j < length (allCorners 0 fs) → cornerAt (allCorners 0 (fs ++ gs)) j ≡ cornerAt (allCorners 0 fs) j
+front-corner : (fs gs : List (List ℕ)) (j : ℕ) → j < length (allCorners 0 fs) → cornerAt (allCorners 0 (fs ++ gs)) j ≡ cornerAt (allCorners 0 fs) j
 unfolding cornerAt
 front-corner fs gs j h = rw (all-append 0 fs gs) (List·getD-append (allCorners 0 fs) (allCorners (0 + length (allCorners 0 fs)) gs) _ j h)
 
 -- faces without a flaw are not empty, none is poor, and no vertex is too large
-pub sound-full : {vertices : ℕ} {fs : List (List ℕ)} → Sound vertices fs → Full fs
+sound-full : {vertices : ℕ} {fs : List (List ℕ)} → Sound vertices fs → Full fs
 sound-full sound-none = none
 sound-full (sound-more {f} {fs} x y s) = go f y (sound-full s)
   where
@@ -128,7 +129,7 @@ vertex-below : (vertices : ℕ) (f : List ℕ) → large vertices f ≡ false �
 unfolding large
 vertex-below vertices f e i h = leb-false vertices (getD f i 0) (some-none (λ v. leb vertices v) f e i 0 h)
 
-pub corner-below : (vertices : ℕ) (fs : List (List ℕ)) → Sound vertices fs → (c : ℕ) → c < length (allCorners 0 fs)
+corner-below : (vertices : ℕ) (fs : List (List ℕ)) → Sound vertices fs → (c : ℕ) → c < length (allCorners 0 fs)
     → Below vertices (cornerAt (allCorners 0 fs) c)
 corner-below vertices fs s c h = go (in-face 0 fs c h)
   where

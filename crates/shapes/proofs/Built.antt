@@ -14,9 +14,10 @@ use Rattle.rules.specs.Lists.{countBelow}
 use Rattle.rules.specs.Map.{Layout, size, link, Valid}
 use Rattle.shapes.specs.Faces.{Corner, allCorners, cornerAt, alike, some, poor, third, dartsOf, vertexOf, cornerBefore, cornerAfter, twin}
 use Rattle.shapes.specs.Faces.{linkFrom, mapOn}
-use Rattle.rules.proofs.Lists.{and-left, and-right, both, or-cases, or-left, or-right, not-both, first-le, first-passes, first-before, length-listOf}
+use Rattle.rules.proofs.Lists.{and-left, and-right, both, or-cases, or-left, or-right, not-both, first-passes, first-before, length-listOf}
 use Rattle.rules.proofs.Places.{link-past}
 use Rattle.rules.proofs.Layouts.{laid, link-laid}
+use Rattle.shapes.proofs.Counts.{count-two}
 use Rattle.shapes.proofs.Corners.{Framed, framed, own-far, after-below, before-below, before-after, after-before}
 
 -- two sides with the same two vertices: both run the same way, or one runs the other way
@@ -44,10 +45,7 @@ alike-crossed a b p q =
     or-right (eqb (a .own) (b .own) && eqb (a .far) (b .far)) (eqb (a .own) (b .far) && eqb (a .far) (b .own))
     (both (eqb (a .own) (b .far)) (eqb (a .far) (b .own)) (eq-eqb (a .own) (b .far) p) (eq-eqb (a .far) (b .own) q))
 
--- a relation between sides as equality is one
-pub alike-self : (a : Corner) → alike a a ≡ true
-alike-self a = alike-straight a a refl refl
-
+-- symmetric and transitive
 pub alike-sym : (a b : Corner) → alike a b ≡ true → alike b a ≡ true
 alike-sym a b e = go (alike-cases a b e)
   where
@@ -64,25 +62,6 @@ alike-trans a b c e f = go (alike-cases a b e) (alike-cases b c f)
     go (inl (p, q)) (inr (r, s)) = alike-crossed a c (p ∙ r) (q ∙ s)
     go (inr (p, q)) (inl (r, s)) = alike-crossed a c (p ∙ s) (q ∙ r)
     go (inr (p, q)) (inr (r, s)) = alike-straight a c (p ∙ s) (q ∙ r)
-
--- two numbers below k that pass count two
-pub count-one : (k : ℕ) (f : ℕ → Bool) (a : ℕ) → a < k → f a ≡ true → 1 ≤ countBelow k f
-unfolding countBelow
-count-one zero f a h p = absurd (omega arith)
-count-one (suc k) f a h p = go (ℕ-discrete a k) (λ l. count-one k f a l p)
-  where
-    go : Dec (a ≡ k) → (a < k → 1 ≤ countBelow k f) → 1 ≤ cond (f k) 1 0 + countBelow k f
-    go (yes e) rec = let q : f k ≡ true = rw e at p in rw q (omega arith)
-    go (no e) rec = omega (arith, rec (omega arith))
-
-pub count-two : (k : ℕ) (f : ℕ → Bool) (a b : ℕ) → a < b → b < k → f a ≡ true → f b ≡ true → 2 ≤ countBelow k f
-unfolding countBelow
-count-two zero f a b h l p q = absurd (omega arith)
-count-two (suc k) f a b h l p q = go (ℕ-discrete b k) (λ m. count-two k f a b h m p q)
-  where
-    go : Dec (b ≡ k) → (b < k → 2 ≤ countBelow k f) → 2 ≤ cond (f k) 1 0 + countBelow k f
-    go (yes e) rec = let r : f k ≡ true = rw e at q in rw r (omega (arith, count-one k f a (omega arith) p))
-    go (no e) rec = omega (arith, rec (omega arith))
 
 -- the twin, where no corner is a third use of its side
 abbrev pub Twice : List Corner → Type 0
@@ -110,14 +89,6 @@ module _ (cs : List Corner) (c : ℕ) where
       go : (b : Bool) → alike (cornerAt cs c) (cornerAt cs e) ≡ b → b ≡ false
       go false q = refl
       go true q = absurd (not-both (not (eqb e c) && alike (cornerAt cs c) (cornerAt cs e)) (rw (ne-eqb e c n, q)) (first-before _ (length cs) e h))
-
-  -- and where there is no twin none at all
-  pub twin-none : length cs ≤ twin cs c → (e : ℕ) → e < length cs → e ≢ c → alike (cornerAt cs c) (cornerAt cs e) ≡ false
-  twin-none h e l n = twin-before e (omega arith) n
-
-  pub twin-le : twin cs c ≤ length cs
-  unfolding twin
-  twin-le = first-le _ (length cs)
 
 module _ (cs : List Corner) (U : Twice cs) where
   -- two corners before c, in order, are not both alike to it
@@ -408,26 +379,26 @@ module _ (cs : List Corner) (F : Framed cs) (A : Apart cs) (U : Twice cs) where
 
 -- the tables with the map in front
 module _ (Y : Layout) (cs : List Corner) (t : List ℕ) (room : size 2 (dartsOf cs) ≤ length t) where
-  on-is : mapOn Y cs t ≡ laid Y 2 (dartsOf cs) (linkFrom cs) ++ drop (size 2 (dartsOf cs)) t
+  pub built-is : mapOn Y cs t ≡ laid Y 2 (dartsOf cs) (linkFrom cs) ++ drop (size 2 (dartsOf cs)) t
   unfolding mapOn laid
-  on-is = rw (le-leb (size 2 (dartsOf cs)) (length t) room)
+  built-is = rw (le-leb (size 2 (dartsOf cs)) (length t) room)
 
-  long : length (laid Y 2 (dartsOf cs) (linkFrom cs)) ≡ size 2 (dartsOf cs)
+  pub laid-long : length (laid Y 2 (dartsOf cs) (linkFrom cs)) ≡ size 2 (dartsOf cs)
   unfolding laid
-  long = length-listOf (size 2 (dartsOf cs)) _
+  laid-long = length-listOf (size 2 (dartsOf cs)) _
 
-  -- as long as they were
+  -- as laid-long as they were
   pub built-length : length (mapOn Y cs t) ≡ length t
   built-length =
-      ap length on-is
+      ap length built-is
       ∙ (length-append (laid Y 2 (dartsOf cs) (linkFrom cs)) (drop (size 2 (dartsOf cs)) t)
-      ∙ omega (arith, long, length-drop (size 2 (dartsOf cs)) t))
+      ∙ omega (arith, laid-long, length-drop (size 2 (dartsOf cs)) t))
 
   -- their links
   pub built-link : (i d : ℕ) → i ≤ 2 → d < dartsOf cs → link Y 2 (dartsOf cs) (mapOn Y cs t) i d ≡ linkFrom cs i d
   built-link i d hi hd =
-      ap (λ (u : List ℕ). link Y 2 (dartsOf cs) u i d) on-is
-      ∙ (link-past Y 2 (dartsOf cs) (laid Y 2 (dartsOf cs) (linkFrom cs)) (drop (size 2 (dartsOf cs)) t) i d hi (omega (arith, long))
+      ap (λ (u : List ℕ). link Y 2 (dartsOf cs) u i d) built-is
+      ∙ (link-past Y 2 (dartsOf cs) (laid Y 2 (dartsOf cs) (linkFrom cs)) (drop (size 2 (dartsOf cs)) t) i d hi (omega (arith, laid-long))
       ∙ link-laid Y 2 (dartsOf cs) (linkFrom cs) i d hi hd)
 
 -- the map is valid, of any corners with frames

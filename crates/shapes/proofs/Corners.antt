@@ -225,9 +225,6 @@ module _ (cs : List Corner) (F : Framed cs) where
   pub next-first : (c : ℕ) → c < length cs → cornerAt cs c .left ≢ 1 → cornerAt cs (c + 1) .first ≡ cornerAt cs c .first
   next-first c h e = let r = F c h in r .same-first (c + 1) (omega (arith, r .first-le)) (omega (arith, r .left-some))
 
-  pub next-left : (c : ℕ) → c < length cs → cornerAt cs c .left ≢ 1 → cornerAt cs (c + 1) .left + 1 ≡ cornerAt cs c .left
-  next-left c h e = let r = F c h in omega (arith, r .same-end (c + 1) (omega (arith, r .first-le)) (omega (arith, r .left-some)))
-
   pub next-below : (c : ℕ) → c < length cs → cornerAt cs c .left ≢ 1 → c + 1 < length cs
   next-below c h e = let r = F c h in omega (arith, r .within, r .left-some)
 
@@ -311,17 +308,8 @@ far-next fs c h = go (ℕ-discrete (cornerAt cs c .left) 1)
         let l : suc c < r .start + length (r .face) = omega (arith, e, q, r .upTo) in
         far-at r c (r .from) l ∙ sym (ap (λ (x : ℕ). cornerAt cs x .own) s ∙ own-at r (suc c) (omega (arith, r .from)) l)
 
--- to the next one, unless it is the last; the last one's leads to the first
-pub next-own : (fs : List (List ℕ)) (c : ℕ) → c < length (allCorners 0 fs) → cornerAt (allCorners 0 fs) c .left ≢ 1
-    → cornerAt (allCorners 0 fs) c .far ≡ cornerAt (allCorners 0 fs) (c + 1) .own
-next-own fs c h e = far-next fs c h ∙ ap (λ (x : ℕ). cornerAt (allCorners 0 fs) x .own) (after-other (allCorners 0 fs) c e)
-
-pub last-own : (fs : List (List ℕ)) (c : ℕ) → c < length (allCorners 0 fs) → cornerAt (allCorners 0 fs) c .left ≡ 1
-    → cornerAt (allCorners 0 fs) c .far ≡ cornerAt (allCorners 0 fs) (cornerAt (allCorners 0 fs) c .first) .own
-last-own fs c h e = far-next fs c h ∙ ap (λ (x : ℕ). cornerAt (allCorners 0 fs) x .own) (after-last (allCorners 0 fs) c e)
-
 -- a test that no entry of a list passes
-or-none : (a b : Bool) → (a || b) ≡ false → (a ≡ false) × (b ≡ false)
+pub or-none : (a b : Bool) → (a || b) ≡ false → (a ≡ false) × (b ≡ false)
 or-none true b e = let z : _≡_ {A = ℕ} 0 1 = cc in absurd (omega arith)
 or-none false b e = (refl, e)
 
@@ -350,11 +338,7 @@ face-apart f e c j h =
 
 -- where no face is poor
 module _ (fs : List (List ℕ)) (e : some poor fs ≡ false) where
-  -- each has three corners at least
-  pub all-three : (k : ℕ) → k < length fs → 3 ≤ length (getD fs k [])
-  all-three k h = face-three (getD fs k []) (some-none poor fs e k [] h)
-
-  -- and each corner's two vertices are not equal
+  -- each corner's two vertices are not equal
   pub own-far : (c : ℕ) → c < length (allCorners 0 fs) → cornerAt (allCorners 0 fs) c .own ≢ cornerAt (allCorners 0 fs) c .far
   own-far c h =
       let r = in-face 0 fs c h in

@@ -1,20 +1,22 @@
 -- A face file is refused by 27, 28 or 29 exactly where that number's case holds of a face, no case of a face before it does, and no lower number's of the
--- same face; where no case holds, what comes later decides. Rests on Lists and Corners.
+-- same face; where no case holds, what comes later decides. Rests on Lists, Counts, Corners and Built.
 use Prim.Native.Nat.{ℕ, zero, suc, _+_, _*_, _-_, _≤_, _<_}
 use mathlib.Core.Path.{_≡_, refl, ap, sym, _∙_}
 use mathlib.Core.Logic.{_⊎_, inl, inr}
-use mathlib.Core.Bool.{Bool, true, false, _&&_, cond}
+use mathlib.Core.Bool.{Bool, true, false}
 use mathlib.Core.List.{List, [], _∷_}
 use native.Mathlib.Omega.{arith}
 use native.Mathlib.Decide.{decLt}
 use lib.ListN.{length, getD, take, drop, drop-of-length-le}
 use lib.Seq.{drop-cons, take-all}
 use lib.Dec.{eqb, ltb, leb}
-use borrow.Author.Tests.{lt-ltb, le-ltb, ltb-true, le-leb, leb-true, leb-false, eq-eqb, eqb-true}
-use Rattle.rules.specs.Lists.{someBelow, countBelow}
+use borrow.Author.Tests.{lt-ltb, le-ltb, ltb-true, le-leb, leb-true, leb-false, eqb-true}
+use Rattle.rules.specs.Lists.{someBelow}
 use Rattle.rules.specs.Check.{Verdict, refuseIf}
 use Rattle.shapes.specs.Faces.{Corner, corners, allCorners, cornerAt, alike, some, large, poor, third, facesVerdict}
-use Rattle.rules.proofs.Lists.{and-left, and-right, both, or-cases, or-right, not-both, some-below, below-some}
+use Rattle.rules.proofs.Lists.{or-cases, not-both, some-below, below-some}
+use Rattle.shapes.proofs.Counts.{count-two, two-count}
+use Rattle.shapes.proofs.Built.{alike-cases, alike-straight, alike-crossed}
 use Rattle.shapes.proofs.Corners.{cornerOf, cornerTo, length-corners, length-all, length-from, corners-at, some-none, none-some, face-three, face-apart}
 
 -- two sides have the same two vertices, along each other or against
@@ -48,90 +50,33 @@ pub data Earlier (nr face nr' face' : ℕ) : Type 0 where
 
 -- the test of two sides
 pub alike-same : (x y : Corner) → alike x y ≡ true → SameTwo x y
-unfolding alike
-alike-same x y e = go (or-cases (eqb (x .own) (y .own) && eqb (x .far) (y .far)) (eqb (x .own) (y .far) && eqb (x .far) (y .own)) e)
+alike-same x y e = go (alike-cases x y e)
   where
-    go : ((eqb (x .own) (y .own) && eqb (x .far) (y .far)) ≡ true) ⊎ ((eqb (x .own) (y .far) && eqb (x .far) (y .own)) ≡ true) → SameTwo x y
-    go (inl q) =
-        let a = eqb (x .own) (y .own) in
-        let b = eqb (x .far) (y .far) in
-        along (eqb-true (x .own) (y .own) (and-left a b q)) (eqb-true (x .far) (y .far) (and-right a b q))
-    go (inr q) =
-        let a = eqb (x .own) (y .far) in
-        let b = eqb (x .far) (y .own) in
-        against (eqb-true (x .own) (y .far) (and-left a b q)) (eqb-true (x .far) (y .own) (and-right a b q))
+    go : ((x .own ≡ y .own) × (x .far ≡ y .far)) ⊎ ((x .own ≡ y .far) × (x .far ≡ y .own)) → SameTwo x y
+    go (inl (p, q)) = along p q
+    go (inr (p, q)) = against p q
 
 pub same-alike : (x y : Corner) → SameTwo x y → alike x y ≡ true
-unfolding alike
-same-alike x y (along p q) = rw (eq-eqb (x .own) (y .own) p, eq-eqb (x .far) (y .far) q)
-same-alike x y (against p q) =
-    let a = eqb (x .own) (y .own) && eqb (x .far) (y .far) in
-    let b = eqb (x .own) (y .far) && eqb (x .far) (y .own) in
-    or-right a b (both (eqb (x .own) (y .far)) (eqb (x .far) (y .own)) (eq-eqb (x .own) (y .far) p) (eq-eqb (x .far) (y .own) q))
+same-alike x y (along p q) = alike-straight x y p q
+same-alike x y (against p q) = alike-crossed x y p q
 
 pub same-flip : {x y : Corner} → SameTwo x y → SameTwo y x
 same-flip (along p q) = along (sym p) (sym q)
 same-flip (against p q) = against (sym q) (sym p)
-
--- a test that passes once below k, and twice
-count-once : (k : ℕ) (f : ℕ → Bool) → 1 ≤ countBelow k f → (a : ℕ) × (a < k) × (f a ≡ true)
-unfolding countBelow
-count-once zero f h = absurd (omega arith)
-count-once (suc k) f h = go (f k) refl h (λ l. count-once k f l)
-  where
-    go : (x : Bool) → f k ≡ x → 1 ≤ cond x 1 0 + countBelow k f → (1 ≤ countBelow k f → (a : ℕ) × (a < k) × (f a ≡ true))
-        → (a : ℕ) × (a < suc k) × (f a ≡ true)
-    go true q l rec = (k, omega arith, q)
-    go false q l rec = let (a, m, p) = rec (omega arith) in (a, omega arith, p)
-
-count-twice : (k : ℕ) (f : ℕ → Bool) → 2 ≤ countBelow k f → (a : ℕ) × (b : ℕ) × (a < b) × (b < k) × (f a ≡ true) × (f b ≡ true)
-unfolding countBelow
-count-twice zero f h = absurd (omega arith)
-count-twice (suc k) f h = go (f k) refl h (λ l. count-twice k f l)
-  where
-    go : (x : Bool) → f k ≡ x → 2 ≤ cond x 1 0 + countBelow k f
-        → (2 ≤ countBelow k f → (a : ℕ) × (b : ℕ) × (a < b) × (b < k) × (f a ≡ true) × (f b ≡ true))
-        → (a : ℕ) × (b : ℕ) × (a < b) × (b < suc k) × (f a ≡ true) × (f b ≡ true)
-    go true q l rec = let (a, m, p) = count-once k f (omega arith) in (a, k, m, omega arith, p, q)
-    go false q l rec = let (a, b, m, n, p, r) = rec (omega arith) in (a, b, m, omega arith, p, r)
-
-count-on : (k : ℕ) (f : ℕ → Bool) → countBelow k f ≤ countBelow (suc k) f
-unfolding countBelow
-count-on k f = omega arith
-
-count-here : (k : ℕ) (f : ℕ → Bool) → f k ≡ true → countBelow (suc k) f ≡ suc (countBelow k f)
-unfolding countBelow
-count-here k f q = rw q (omega arith)
-
-once-count : (k : ℕ) (f : ℕ → Bool) (a : ℕ) → a < k → f a ≡ true → 1 ≤ countBelow k f
-once-count zero f a h p = absurd (omega arith)
-once-count (suc k) f a h p = go (decLt a k) (λ l. once-count k f a l p)
-  where
-    go : Dec (a < k) → (a < k → 1 ≤ countBelow k f) → 1 ≤ countBelow (suc k) f
-    go (yes l) rec = omega (arith, count-on k f, rec l)
-    go (no l) rec = let e : a ≡ k = omega arith in omega (arith, count-here k f (rw e at p))
-
-twice-count : (k : ℕ) (f : ℕ → Bool) (a b : ℕ) → a < b → b < k → f a ≡ true → f b ≡ true → 2 ≤ countBelow k f
-twice-count zero f a b l h p q = absurd (omega arith)
-twice-count (suc k) f a b l h p q = go (decLt b k) (λ m. twice-count k f a b l m p q)
-  where
-    go : Dec (b < k) → (b < k → 2 ≤ countBelow k f) → 2 ≤ countBelow (suc k) f
-    go (yes m) rec = omega (arith, count-on k f, rec m)
-    go (no m) rec = let e : b ≡ k = omega arith in omega (arith, count-here k f (rw e at q), once-count k f a (omega arith) p)
 
 -- a third use: two corners before c have the same two vertices
 pub third-thrice : (cs : List Corner) (c : ℕ) → third cs c ≡ true
     → (a : ℕ) × (b : ℕ) × (a < b) × (b < c) × SameTwo (cornerAt cs a) (cornerAt cs c) × SameTwo (cornerAt cs b) (cornerAt cs c)
 unfolding third
 third-thrice cs c e =
-    let (a, b, l, m, p, q) = count-twice c (λ e. alike (cornerAt cs c) (cornerAt cs e)) (leb-true 2 _ e) in
+    let (a, b, l, m, p, q) = two-count c (λ e. alike (cornerAt cs c) (cornerAt cs e)) (leb-true 2 _ e) in
     (a, b, l, m, same-flip (alike-same (cornerAt cs c) (cornerAt cs a) p), same-flip (alike-same (cornerAt cs c) (cornerAt cs b) q))
 
 pub thrice-third : (cs : List Corner) (c a b : ℕ) → a < b → b < c → SameTwo (cornerAt cs a) (cornerAt cs c) → SameTwo (cornerAt cs b) (cornerAt cs c)
     → third cs c ≡ true
 unfolding third
 thrice-third cs c a b l m p q =
-    le-leb 2 _ (twice-count c (λ e. alike (cornerAt cs c) (cornerAt cs e)) a b l m
+    le-leb 2 _ (count-two c (λ e. alike (cornerAt cs c) (cornerAt cs e)) a b l m
     (same-alike (cornerAt cs c) (cornerAt cs a) (same-flip p)) (same-alike (cornerAt cs c) (cornerAt cs b) (same-flip q)))
 
 -- where each face starts

@@ -1,7 +1,9 @@
+pub mod Counts
 pub mod Corners
 pub mod Built
 pub mod Texts
 pub mod FaceCases
 pub mod Posted
+pub mod Rooms
 pub mod Unique
 pub mod FaceExamples

@@ -52,13 +52,13 @@ module _ {tree keys twins : List ℕ} {kf : ℕ → ℕ} {m j : ℕ} (w : Swept 
       go (no l) = at y refl (w .leads y h (λ z i x. eqb-false (kf z) (kf y) (first-before f y z (omega arith)) x))
 
   -- a search that ends at a free place: no corner of the table has the key
-  pub swept-free : {at : ℕ} → Path tree keys key key (key % 4093) (Free at) → (y : ℕ) → y < m → kf y ≢ key
+  swept-free : {at : ℕ} → Path tree keys key key (key % 4093) (Free at) → (y : ℕ) → y < m → kf y ≢ key
   swept-free {at} p y h e = let (k, q) = leads-first y h e in apart (path-one tree keys key p q)
     where
       apart : {k : ℕ} → Free at ≡ Found k → ⊥
       apart {k} z = let o : _≡_ {A = ℕ} 0 1 = cc in omega arith
 
-  pub swept-found : {k : ℕ} → Path tree keys key key (key % 4093) (Found k) → (k < m) × (kf k ≡ key)
+  swept-found : {k : ℕ} → Path tree keys key key (key % 4093) (Found k) → (k < m) × (kf k ≡ key)
   swept-found {k} p = let h = found-low tree keys key m (w .grown) p in (h, sym (w .keyed k h) ∙ found-key tree keys key p)
 
   module _ (ek : kf j ≡ key) where

@@ -1,60 +1,20 @@
 -- Laws of third uses: two corners before with the same key, the first corner that has such two, and blocks of corners one after another.
-use Prim.Native.Nat.{ℕ, zero, suc, _+_, _-_, _≤_, _<_}
-use mathlib.Core.Path.{_≡_, refl, sym}
+use Prim.Native.Nat.{ℕ, _+_, _-_, _≤_, _<_}
+use mathlib.Core.Path.{_≡_, sym}
 use mathlib.Core.Logic.{_≢_}
-use mathlib.Core.Bool.{Bool, true, false, cond}
+use mathlib.Core.Bool.{true}
 use native.Mathlib.Omega.{arith}
 use native.Mathlib.Decide.{ℕ-discrete, decLt}
 use lib.Dec.{eqb}
 use borrow.Author.Tests.{eqb-true, eq-eqb, le-leb, leb-true}
 use Rattle.rules.specs.Lists.{countBelow, first}
+use Rattle.shapes.proofs.Counts.{count-two, two-count}
 use Rattle.rules.proofs.Lists.{not-both, first-le, first-passes, first-before}
 use Rattle.sides.specs.Sides.{thirdUse, Third, Stops}
 
--- numbers that pass are counted
-count-one : (k : ℕ) (f : ℕ → Bool) (a : ℕ) → a < k → f a ≡ true → 1 ≤ countBelow k f
-unfolding countBelow
-count-one zero f a h p = absurd (omega arith)
-count-one (suc k) f a h p = go (ℕ-discrete a k) (λ l. count-one k f a l p)
-  where
-    go : Dec (a ≡ k) → (a < k → 1 ≤ countBelow k f) → 1 ≤ cond (f k) 1 0 + countBelow k f
-    go (yes e) r = let q : f k ≡ true = rw e at p in rw q (omega arith)
-    go (no e) r = omega (arith, r (omega arith))
-
-count-two : (k : ℕ) (f : ℕ → Bool) (a b : ℕ) → a < b → b < k → f a ≡ true → f b ≡ true → 2 ≤ countBelow k f
-unfolding countBelow
-count-two zero f a b l h p q = absurd (omega arith)
-count-two (suc k) f a b l h p q = go (ℕ-discrete b k) (λ i. count-two k f a b l i p q)
-  where
-    go : Dec (b ≡ k) → (b < k → 2 ≤ countBelow k f) → 2 ≤ cond (f k) 1 0 + countBelow k f
-    go (yes e) r = let z : f k ≡ true = rw e at q in rw z (omega (arith, count-one k f a (omega arith) p))
-    go (no e) r = omega (arith, r (omega arith))
-
--- and what is counted are numbers that pass
-one-count : (k : ℕ) (f : ℕ → Bool) → 1 ≤ countBelow k f → (a : ℕ) × (a < k) × (f a ≡ true)
-unfolding countBelow
-one-count zero f h = absurd (omega arith)
-one-count (suc k) f h = go (f k) refl h (one-count k f)
-  where
-    go : (b : Bool) → f k ≡ b → 1 ≤ cond b 1 0 + countBelow k f → (1 ≤ countBelow k f → (a : ℕ) × (a < k) × (f a ≡ true))
-        → (a : ℕ) × (a < suc k) × (f a ≡ true)
-    go true e h r = (k, omega arith, e)
-    go false e h r = let (a, l, p) = r (omega arith) in (a, omega arith, p)
-
-two-count : (k : ℕ) (f : ℕ → Bool) → 2 ≤ countBelow k f → (a : ℕ) × (b : ℕ) × (a < b) × (b < k) × (f a ≡ true) × (f b ≡ true)
-unfolding countBelow
-two-count zero f h = absurd (omega arith)
-two-count (suc k) f h = go (f k) refl h (two-count k f)
-  where
-    go : (b : Bool) → f k ≡ b → 2 ≤ cond b 1 0 + countBelow k f
-        → (2 ≤ countBelow k f → (a : ℕ) × (b : ℕ) × (a < b) × (b < k) × (f a ≡ true) × (f b ≡ true))
-        → (a : ℕ) × (b : ℕ) × (a < b) × (b < suc k) × (f a ≡ true) × (f b ≡ true)
-    go true e h r = let (a, l, p) = one-count k f (omega arith) in (a, k, l, omega arith, p, e)
-    go false e h r = let (a, b, l, i, p, q) = r (omega arith) in (a, b, l, omega arith, p, q)
-
 module _ (kf : ℕ → ℕ) where
   -- two before x have its key
-  pub third-uses : (x a b : ℕ) → a ≢ b → a < x → b < x → kf a ≡ kf x → kf b ≡ kf x → thirdUse kf x ≡ true
+  third-uses : (x a b : ℕ) → a ≢ b → a < x → b < x → kf a ≡ kf x → kf b ≡ kf x → thirdUse kf x ≡ true
   unfolding thirdUse
   third-uses x a b n h l p q = le-leb 2 (countBelow x (λ e. eqb (kf x) (kf e))) (go (decLt a b))
     where
@@ -65,7 +25,7 @@ module _ (kf : ℕ → ℕ) where
   pub third-use : {m x : ℕ} → Third kf m x → thirdUse kf x ≡ true
   third-use {x = x} t = third-uses x (t .one) (t .other) (t .apart) (t .before .0) (t .before .1) (t .alike .0) (t .alike .1)
 
-  pub use-third : (m x : ℕ) → x ≤ m → thirdUse kf x ≡ true → Third kf m x
+  use-third : (m x : ℕ) → x ≤ m → thirdUse kf x ≡ true → Third kf m x
   unfolding thirdUse
   use-third m x h e =
       let (a, b, l, i, p, q) = two-count x (λ e. eqb (kf x) (kf e)) (leb-true 2 (countBelow x (λ e. eqb (kf x) (kf e))) e) in

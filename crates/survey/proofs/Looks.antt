@@ -1,5 +1,5 @@
 -- Laws of the pass: the corners of a face and the faces of a text, read one after another.
-use Prim.Native.Nat.{ℕ, zero, suc, _+_, _*_, _-_, _≤_, _<_}
+use Prim.Native.Nat.{ℕ, suc, _+_, _*_, _-_, _≤_, _<_}
 use mathlib.Core.Path.{_≡_, refl, ap, sym, _∙_}
 use mathlib.Core.Logic.{_≢_}
 use mathlib.Core.List.{List, [], _∷_}
@@ -10,7 +10,7 @@ use lib.Dec.{ltb}
 use Rattle.shapes.specs.Text.{lineEnd, Read, bad, good, next, number, several, face}
 use Rattle.shapes.specs.Faces.{cornersTo}
 use Rattle.text.specs.Leaves.{Fresh}
-use Rattle.text.proofs.Readings.{next-good, number-fresh, face-count, face-corner, face-good, face-fresh}
+use Rattle.text.proofs.Readings.{number-fresh, face-count, face-corner, face-good, face-fresh, several-length}
 use Rattle.survey.specs.declared.Look as look
 use Rattle.survey.specs.declared.Sight as sight
 use Rattle.survey.specs.declared.Survey as survey
@@ -35,15 +35,6 @@ module _ {A : Type 0} (read : ℕ → Read A) where
   -- equal readings read the same
   what : (xs ys : List A) (p q : ℕ) → good xs p ≡ good ys q → xs ≡ ys
   what xs ys p q e = cc
-
-  -- they are as many as were wanted
-  pub several-length : (n p : ℕ) (xs : List A) (q : ℕ) → several read n p ≡ good xs q → length xs ≡ n
-  unfolding several
-  several-length zero p xs q e = sym (ap length (what [] xs p q e))
-  several-length (suc n) p xs q e =
-      let a = next-good (read p) _ xs q e in
-      let b = next-good (several read n (a .after)) _ xs q (a .two) in
-      sym (ap length (what (a .what ∷ b .what) xs (b .after) q (b .two))) ∙ ap suc (several-length n (a .after) (b .what) (b .after) (b .one))
 
 -- the corners of a face up to p are read: own is the last of them, x what they say
 pub record Looking (t : List ℕ) (a count n f x₀ x own p k : ℕ) : Type 0 where

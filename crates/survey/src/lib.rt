@@ -74,6 +74,7 @@ fn begins(count: u32) -> u32
     0
 }
 
+// One face.
 fn seen(text: &[u8], at: usize, vertices: u32) -> Sight
     requires { ⌜ Fresh (now text) at ⌝ }
     ensures { λ r. ⌜ r ≡ sightOf vertices (face (now (text .entry)) at) ⌝ }
@@ -109,6 +110,7 @@ pub struct Flaw {
     pub corners: usize,
 }
 
+// With one face more: what comes after a flaw changes nothing.
 fn judged(s: Flaw, face: u32, number: u32, corners: u32) -> Flaw
     requires { ⌜ s .corners + corners < 18446744073709551616 ⌝ }
     ensures { λ r. ⌜ r ≡ judgedOf s face number corners ⌝ }
@@ -136,6 +138,7 @@ pub enum Survey {
     Good(Flaw),
 }
 
+// All faces, each to its end: 26 in a later one comes before 27 and 28 of this.
 fn faces(text: &[u8], at: usize, count: u32, vertices: u32) -> Survey
     requires { ⌜ Fresh (now text) at ⌝ }
     ensures { λ r. ⌜ r ≡ surveyOf vertices (several (face (now (text .entry))) count at) ⌝ }
@@ -170,6 +173,7 @@ pub struct Plan {
     pub corners: usize,
 }
 
+// 26 at a place, or the plan.
 pub enum Outline {
     Bad(usize),
     Good(Plan),

@@ -11,11 +11,12 @@ use lib.Dec.{eqb}
 use borrow.Author.Tests.{eq-eqb, ne-eqb, eqb-true, eqb-false}
 use Rattle.rules.specs.Lists.{scan}
 use Rattle.rules.proofs.Lists.{scan-here, scan-next, scan-end, scanned, not-both}
+use Rattle.shapes.proofs.Corners.{or-none}
 use Rattle.shapes.specs.Text.{isBlank, commented, gap, wordFrom, wordEnd, lineEnd}
 use Rattle.text.specs.Leaves.{stop, Fresh}
 
 -- a search goes on over all up to j at once
-pub scan-over : (f : ℕ → Bool) (k i m : ℕ) → i + m ≤ k → ((d : ℕ) → i ≤ d → d < i + m → f d ≡ false) → scan f (k - i) i ≡ scan f (k - (i + m)) (i + m)
+scan-over : (f : ℕ → Bool) (k i m : ℕ) → i + m ≤ k → ((d : ℕ) → i ≤ d → d < i + m → f d ≡ false) → scan f (k - i) i ≡ scan f (k - (i + m)) (i + m)
 scan-over f k i zero h q = let e : i + 0 ≡ i = omega arith in rw e
 scan-over f k i (suc m) h q =
     let e : i + suc m ≡ i + m + 1 = omega arith in
@@ -38,14 +39,10 @@ module _ {f : ℕ → Bool} {k a p : ℕ} (g : Gone f k a p) where
   pub gone-end : k ≤ p → p ≡ scan f (k - a) a
   gone-end h = sym (g .left ∙ scan-end f k p h)
 
-  pub gone-over : (r : ℕ) → p ≤ r → r ≤ k → ((d : ℕ) → p ≤ d → d < r → f d ≡ false) → Gone f k a r
+  gone-over : (r : ℕ) → p ≤ r → r ≤ k → ((d : ℕ) → p ≤ d → d < r → f d ≡ false) → Gone f k a r
   gone-over r h l q =
       let e : p + (r - p) ≡ r = omega arith in
       record { left = rw e at (g .left ∙ scan-over f k p (r - p) (omega arith) (λ d x y. q d x (omega arith))) }
-
-pub or-left : (a b : Bool) → (a || b) ≡ false → a ≡ false
-or-left true b e = let z : _≡_ {A = ℕ} 0 1 = cc in absurd (omega arith)
-or-left false b e = refl
 
 -- a byte past the blanks is none
 pub no-blank : (b : ℕ) → 32 < b → isBlank b ≡ false
@@ -58,12 +55,12 @@ no-stop b h = rw (no-blank b (omega arith), ne-eqb b 35 (omega arith))
 
 -- comments
 module _ (t : List ℕ) where
-  pub hash-comment : (p : ℕ) → getD t p 0 ≡ 35 → commented t p ≡ true
+  hash-comment : (p : ℕ) → getD t p 0 ≡ 35 → commented t p ≡ true
   unfolding commented
   hash-comment zero e = eq-eqb (getD t 0 0) 35 e
   hash-comment (suc p) e = rw (eq-eqb (getD t (suc p) 0) 35 e)
 
-  pub no-comment : (p : ℕ) → getD t p 0 ≡ 10 → commented t p ≡ false
+  no-comment : (p : ℕ) → getD t p 0 ≡ 10 → commented t p ≡ false
   unfolding commented
   no-comment zero e = ne-eqb (getD t 0 0) 35 (omega arith)
   no-comment (suc p) e = rw (eq-eqb (getD t (suc p) 0) 10 e, ne-eqb (getD t (suc p) 0) 35 (omega arith))
@@ -87,7 +84,7 @@ module _ (t : List ℕ) where
       plain false false = refl
 
   -- where no comment goes on, a byte tells whether it is of a word
-  pub gap-stop : (p : ℕ) → Fresh t p → p < length t → gap t p ≡ stop (getD t p 0)
+  gap-stop : (p : ℕ) → Fresh t p → p < length t → gap t p ≡ stop (getD t p 0)
   unfolding gap stop
   gap-stop p f h = rw (f .plain h)
 
@@ -108,14 +105,14 @@ module _ (t : List ℕ) where
   pub fresh-inside : (p : ℕ) → gap t p ≡ false → Fresh t p
   unfolding gap
   fresh-inside p g =
-      let c = or-left (commented t p) (isBlank (getD t p 0)) g in
+      let c = or-none (commented t p) (isBlank (getD t p 0)) g .0 in
       record { plain = λ h. c ∙ sym (ne-eqb (getD t p 0) 35 (λ e. not-both (commented t p) (hash-comment p e) c)) }
 
   pub line-end-from : (p : ℕ) → p ≤ lineEnd t p
   unfolding lineEnd
   line-end-from p = scanned (λ k. eqb (getD t k 0) 10) (length t - p) p .from
 
-  pub line-end-within : (p : ℕ) → p ≤ length t → lineEnd t p ≤ length t
+  line-end-within : (p : ℕ) → p ≤ length t → lineEnd t p ≤ length t
   unfolding lineEnd
   line-end-within p h = omega (arith, scanned (λ k. eqb (getD t k 0) 10) (length t - p) p .upTo)
 
@@ -177,7 +174,7 @@ module _ (t : List ℕ) where
     unfolding stop
     ending-next b =
         record {
-          fresh = fresh-next p (c .fresh) h (λ e. eqb-false (getD t p 0) 35 (or-left (eqb (getD t p 0) 35) (isBlank (getD t p 0)) b) e);
+          fresh = fresh-next p (c .fresh) h (λ e. eqb-false (getD t p 0) 35 (or-none (eqb (getD t p 0) 35) (isBlank (getD t p 0)) b .0) e);
           gone = gone-next (c .gone) h (gap-stop p (c .fresh) h ∙ b);
         }
 

@@ -1,7 +1,7 @@
 -- Laws of readings: what each tells of where it ended, and one turn of each loop over words, numbers and faces.
 use Prim.Native.Nat.{ℕ, zero, suc, _+_, _-_, _≤_, _<_}
 use mathlib.Core.Path.{_≡_, refl, ap, sym, _∙_}
-use mathlib.Core.List.{List, _∷_}
+use mathlib.Core.List.{List, [], _∷_}
 use mathlib.Core.Bool.{Bool, true, false, not, _&&_}
 use native.Mathlib.Omega.{arith}
 use native.Mathlib.Decide.{decLt}
@@ -14,9 +14,10 @@ use Rattle.text.specs.declared.Reading as reading
 use Rattle.text.specs.declared.Place as place
 use Rattle.text.specs.declared.Header as header
 use Rattle.text.specs.declared.Sizes.{Sizes}
+use Rattle.shapes.proofs.Corners.{or-none}
 use Rattle.shapes.specs.Text.{isBlank, commented, gap, wordFrom, wordEnd, lineEnd, Read, bad, good, next, provided, word, keyword, number, several, face}
 use Rattle.text.specs.Leaves.{Fresh, Inside, numeral, readingOf, placeOf, headerOf, counts}
-use Rattle.text.proofs.Laws.{or-left, fresh-line, comment-after}
+use Rattle.text.proofs.Laws.{fresh-line, comment-after}
 
 -- what an answer says of the reading
 pub reading-bad : (x : Read ℕ) (w : ℕ) (r : reading.Reading) → r ≡ readingOf x → r ≡ reading.the-variants.Bad w → x ≡ bad w
@@ -92,7 +93,7 @@ module _ (t : List ℕ) where
               → commented t (wordEnd t w) ≡ eqb (getD t (wordEnd t w) 0) 35
           last e q a f b (no x) = let z : e ≡ w = omega arith in absurd (not-both (gap t w) (rw z at a) (n .letter))
           last zero q a f b (yes x) = absurd (omega arith)
-          last (suc e) q a f b (yes x) = rw q (comment-after t e (or-left (commented t e) (isBlank (getD t e 0)) (b e (omega arith) (omega arith))))
+          last (suc e) q a f b (yes x) = rw q (comment-after t e (or-none (commented t e) (isBlank (getD t e 0)) (b e (omega arith) (omega arith)) .0))
 
   -- numbers
   pub number-none : (p w : ℕ) → w ≡ wordFrom t p → length t ≤ w → bad w ≡ number t p
@@ -265,3 +266,40 @@ module _ {A : Type 0} (read : ℕ → Read A) where
     pub reads-end : n ≤ k → place.the-variants.Good p ≡ placeOf (several read n a)
     unfolding several placeOf
     reads-end h = let z : n - k ≡ 0 = omega arith in sym (i .left ∙ rw z)
+
+-- several readings of which there is one more
+pub record Split {A : Type 0} (read : ℕ → Read A) (k p : ℕ) (xs : List A) (q : ℕ) : Type 0 where
+  pub head : A
+  pub rest : List A
+  pub after : ℕ
+  pub one : read p ≡ good head after
+  pub others : several read k after ≡ good rest q
+  pub all : xs ≡ head ∷ rest
+
+pub several-split : {A : Type 0} (read : ℕ → Read A) (k p : ℕ) (xs : List A) (q : ℕ) → several read (suc k) p ≡ good xs q → Split read k p xs q
+unfolding several
+several-split {A = A} read k p xs q e =
+    let a = next-good (read p) _ xs q e in
+    let b = next-good (several read k (a .after)) _ xs q (a .two) in
+    record {
+      head = a .what;
+      rest = b .what;
+      after = a .after;
+      one = a .one;
+      others = b .one ∙ ap (λ (x : ℕ). good (b .what) x) (ends (a .what ∷ b .what) xs (b .after) q (b .two));
+      all = sym (what (a .what ∷ b .what) xs (b .after) q (b .two));
+    }
+  where
+    ends : (x y : List A) (i j : ℕ) → good x i ≡ good y j → i ≡ j
+    ends x y i j e = cc
+
+    what : (x y : List A) (i j : ℕ) → good x i ≡ good y j → x ≡ y
+    what x y i j e = cc
+
+-- they are as many as were wanted
+pub several-length : {A : Type 0} (read : ℕ → Read A) (k p : ℕ) (xs : List A) (q : ℕ) → several read k p ≡ good xs q → length xs ≡ k
+unfolding several
+several-length read zero p xs q e = let a : xs ≡ [] = cc in rw a
+several-length read (suc k) p xs q e =
+    let s = several-split read k p xs q e in
+    rw (s .all) (ap suc (several-length read k (s .after) (s .rest) q (s .others)))
