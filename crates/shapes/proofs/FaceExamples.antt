@@ -13,7 +13,8 @@ use Rattle.shapes.specs.declared.FacesAnswer.{FacesAnswer}
 use Rattle.shapes.specs.Text as text
 use Rattle.shapes.specs.Text.{isBlank, commented, gap, wordFrom, wordEnd, lineEnd, next, provided, word, keyword, isDigit, value, several, face, file}
 use Rattle.shapes.specs.Faces.{some, cornersTo, corners, allCorners, cornerAt, alike, large, poor, third, facesVerdict, dartsOf, vertexOf, cornerBefore}
-use Rattle.shapes.specs.Faces.{cornerAfter, twin, linkFrom, mapOn, cornersOf, readVerdict, refusal, facesAnswerOf, tablesAfter, facesAnswer, facesTables, facesWork}
+use Rattle.shapes.specs.Faces.{cornerAfter, twin, linkFrom, mapOn, cornersOf, readVerdict, refusal, facesAnswerOf, tablesAfter, facesAnswer}
+use Rattle.shapes.specs.Faces.{facesTables, facesWork}
 
 -- a text as bytes, and its answer
 pub record Example : Type 0 where
