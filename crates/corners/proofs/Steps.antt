@@ -11,13 +11,23 @@ use lib.Dec.{eqb, leb}
 use borrow.Author.Tests.{eq-eqb, le-leb, lt-leb}
 use Rattle.text.specs.declared.Known.{Known}
 use Rattle.rules.specs.Lists.{allBelow, countBelow}
-use Rattle.shapes.specs.Text.{wordFrom, wordEnd, lineEnd, good, provided, isDigit, value, number}
+use Rattle.shapes.specs.Text.{wordFrom, wordEnd, lineEnd, Read, bad, good, provided, isDigit, value, number}
 use Rattle.text.specs.Leaves.{Fresh, Inside, numeral, knownOf}
 use Rattle.text.proofs.Laws.{fresh-inside, fresh-line}
+use Rattle.text.proofs.Numerals.{number-small}
 use Rattle.text.proofs.Readings.{word-inside, fresh-end, number-none, number-some}
 use Rattle.corners.specs.declared.Position.{Position}
 use Rattle.corners.specs.declared.Step.{Step}
 use Rattle.corners.specs.Steps.{known, begun, openedBy, openedOf, stepBy, stepOf, positionAfter, stepAt, lastAt}
+
+-- a position whose vertices have nine digits at most
+pub record Small (c : Position) : Type 0 where
+  pub own : c .own < 1000000000
+  pub first : c .first < 1000000000
+
+pub small-begun : (p : ℕ) → Small (begun p)
+unfolding begun
+small-begun p = record { own = omega arith; first = omega arith }
 
 module _ (t : List ℕ) where
   numeral-fresh : (w : ℕ) → Inside t w → Fresh t (knownOf (numeral t w) .after)
@@ -119,3 +129,36 @@ module _ (t : List ℕ) where
 
   pub ended-end : {c : Position} {k n face : ℕ} {p : Position} → Ended c k face p → k ≤ n → n ≤ k → face ≡ countBelow n (lastAt t c)
   ended-end {c} {k} {n} {face} {p} e h l = let z : n ≡ k = omega arith in rw z (e .faces)
+
+  -- the vertices that a position holds have nine digits at most, from a face's beginning on
+  known-small : (p : ℕ) → known t p .value < 1000000000
+  unfolding knownOf
+  known-small p = go (number t p) refl
+    where
+      go : (r : Read ℕ) → number t p ≡ r → knownOf r .value < 1000000000
+      go (bad w) e = omega arith
+      go (good v x) e = number-small t p v x e
+
+  opened-small : (c : Position) → Small c → Small (openedOf t c)
+  unfolding openedOf openedBy
+  opened-small c s = go (eqb (c .left) 0)
+    where
+      go : (b : Bool) → Small (openedBy b t c)
+      go true = let v = known-small (known t (c .at) .after) in record { own = v; first = v }
+      go false = s
+
+  pub small-step : (c : Position) → Small c → (stepOf t c .own < 1000000000) × (stepOf t c .far < 1000000000) × Small (stepOf t c .next)
+  unfolding stepOf stepBy begun
+  small-step c s = go (leb (openedOf t c .left) 1)
+    where
+      o : Small (openedOf t c)
+      o = opened-small c s
+
+      go : (b : Bool) → let x = stepBy b t (openedOf t c) in (x .own < 1000000000) × (x .far < 1000000000) × Small (x .next)
+      go true = (o .own, o .first, record { own = omega arith; first = omega arith })
+      go false = let v = known-small (openedOf t c .at) in (o .own, v, record { own = v; first = o .first })
+
+  pub small-after : (k : ℕ) (c : Position) → Small c → Small (positionAfter t k c)
+  unfolding positionAfter
+  small-after zero c s = s
+  small-after (suc k) c s = small-after k (stepOf t c .next) (small-step c s .2)

@@ -14,7 +14,7 @@ use Rattle.rules.specs.Lists.{countBelow}
 use Rattle.shapes.specs.Text.{good, several, face}
 use Rattle.shapes.specs.Faces.{Corner, corners, allCorners, cornerAt, alike, some, large, poor, third}
 use Rattle.shapes.proofs.Counts.{count-same}
-use Rattle.shapes.proofs.Corners.{length-all, length-from, in-face, InFace, own-at, far-at, far-last, some-none, face-three}
+use Rattle.shapes.proofs.Corners.{length-all, length-from, startOf, start-next, Of, of-known, of-some, own-at, far-at, far-last, some-none, face-three}
 use Rattle.shapes.proofs.Built.{alike-cases, alike-straight, alike-crossed}
 use Rattle.corners.specs.Steps.{begun, stepAt, lastAt}
 use Rattle.corners.proofs.Runs.{Use, bare, useOf, Full, none, more, run-at, faces-run}
@@ -131,21 +131,25 @@ vertex-below vertices f e i h = leb-false vertices (getD f i 0) (some-none (λ v
 
 corner-below : (vertices : ℕ) (fs : List (List ℕ)) → Sound vertices fs → (c : ℕ) → c < length (allCorners 0 fs)
     → Below vertices (cornerAt (allCorners 0 fs) c)
-corner-below vertices fs s c h = go (in-face 0 fs c h)
+corner-below vertices fs s c h = record {
+  own = rw (own-at fs k c o) (small (c - startOf fs k) (omega (arith, o .from, o .upTo)));
+  far = ahead (decLt (suc c) (startOf fs (suc k)));
+}
   where
-    go : InFace 0 fs c → Below vertices (cornerAt (allCorners 0 fs) c)
-    go r =
-        record {
-          own = rw (own-at r c (r .from) (r .upTo)) (small (c - r .start) (omega (arith, r .from, r .upTo)));
-          far = ahead (decLt (suc c) (r .start + length (r .face)));
-        }
-      where
-        small : (i : ℕ) → i < length (r .face) → getD (r .face) i 0 < vertices
-        small i l = vertex-below vertices (r .face) (rw (r .is) at (sound-large s (r .nr) (r .known))) i l
+    k : ℕ
+    k = of-some fs c h .0
 
-        ahead : Dec (suc c < r .start + length (r .face)) → cornerAt (allCorners 0 fs) c .far < vertices
-        ahead (yes l) = rw (far-at r c (r .from) l) (small (suc c - r .start) (omega (arith, r .from)))
-        ahead (no l) = rw (far-last r c (r .from) (omega (arith, r .upTo))) (small 0 (omega (arith, r .from, r .upTo)))
+    o : Of fs k c
+    o = of-some fs c h .1
+
+    small : (i : ℕ) → startOf fs k + i < startOf fs (suc k) → getD (getD fs k []) i 0 < vertices
+    small i l =
+        let known = of-known fs k c o in
+        vertex-below vertices (getD fs k []) (sound-large s k known) i (omega (arith, start-next fs k known))
+
+    ahead : Dec (suc c < startOf fs (suc k)) → cornerAt (allCorners 0 fs) c .far < vertices
+    ahead (yes l) = rw (far-at fs k c o l) (small (suc c - startOf fs k) (omega (arith, o .from)))
+    ahead (no l) = rw (far-last fs k c o (omega (arith, o .upTo))) (small 0 (omega (arith, o .from, o .upTo)))
 
 getD-map : {A B : Type 0} (f : A → B) (l : List A) (j : ℕ) (d : A) → getD (map f l) j (f d) ≡ f (getD l j d)
 getD-map f [] j d = refl

@@ -7,8 +7,8 @@ use mathlib.Core.Bool.{Bool, true, false, _||_, cond}
 use mathlib.Core.List.{List, [], _∷_, _++_}
 use native.Mathlib.Omega.{arith}
 use native.Mathlib.Decide.{ℕ-discrete, decLt, decLe}
-use lib.ListN.{length, getD, length-append, List·getD-append}
-use lib.Seq.{getD-append-add}
+use lib.ListN.{length, getD, take, length-append, List·getD-append}
+use lib.Seq.{getD-append-add, take-all}
 use lib.Dec.{eqb, ltb}
 use borrow.Author.Tests.{lt-ltb, le-ltb, ltb-false, eq-eqb, ne-eqb, eqb-false}
 use Rattle.shapes.specs.Faces.{Corner, cornersTo, corners, allCorners, cornerAt, some, poor, cornerBefore, cornerAfter}
@@ -82,54 +82,77 @@ corner-later c f fs i =
     ap (λ (n : ℕ). cornerAt (corners c f ++ allCorners (c + length f) fs) (n + i)) (sym (length-corners c f))
     ∙ getD-append-add (corners c f) (allCorners (c + length f) fs) i _
 
--- where corner c + i of the faces fs stands, c the first one's number: face nr is `face`, and its corners are those from `start` on
-pub record InFace (c : ℕ) (fs : List (List ℕ)) (i : ℕ) : Type 0 where
-  pub nr : ℕ
-  pub start : ℕ
-  pub face : List ℕ
-  pub known : nr < length fs
-  pub is : getD fs nr [] ≡ face
-  pub from : start ≤ i
-  pub upTo : i < start + length face
-  pub within : start + length face ≤ length (allCorners c fs)
-  pub all : (j : ℕ) → j < length face → cornerAt (allCorners c fs) (start + j) ≡ cornerOf (c + start) face j
+-- the first corner of face k: as many as the faces before it have
+unfoldable pub startOf : List (List ℕ) → ℕ → ℕ
+startOf fs k = length (allCorners 0 (take k fs))
 
-pub in-face : (c : ℕ) (fs : List (List ℕ)) (i : ℕ) → i < length (allCorners c fs) → InFace c fs i
-unfolding allCorners
-in-face c [] i h = absurd (omega arith)
-in-face c (f ∷ fs) i h = go (decLt i (length f)) (λ l. in-face (c + length f) fs (i - length f) l)
+-- corner c is one of face k
+pub record Of (fs : List (List ℕ)) (k c : ℕ) : Type 0 where
+  pub from : startOf fs k ≤ c
+  pub upTo : c < startOf fs (suc k)
+
+-- where each face starts
+pub start-zero : (fs : List (List ℕ)) → startOf fs 0 ≡ 0
+unfolding startOf allCorners
+start-zero fs = refl
+
+pub start-suc : (f : List ℕ) (fs : List (List ℕ)) (k : ℕ) → startOf (f ∷ fs) (suc k) ≡ length f + startOf fs k
+unfolding startOf
+start-suc f fs k = length-all 0 f (take k fs) ∙ ap (λ (n : ℕ). length f + n) (length-from (0 + length f) (take k fs))
+
+-- after the corners of the face before
+pub start-next : (fs : List (List ℕ)) (k : ℕ) → k < length fs → startOf fs (suc k) ≡ startOf fs k + length (getD fs k [])
+start-next [] k h = absurd (omega arith)
+start-next (f ∷ fs) zero h = omega (arith, start-suc f fs 0, start-zero fs, start-zero (f ∷ fs))
+start-next (f ∷ fs) (suc k) h = omega (arith, start-suc f fs k, start-suc f fs (suc k), start-next fs k (omega arith))
+
+-- within all corners
+start-within : (fs : List (List ℕ)) (k : ℕ) → startOf fs k ≤ length (allCorners 0 fs)
+unfolding startOf
+start-within fs zero = omega (arith, start-zero fs)
+start-within [] (suc k) = omega arith
+start-within (f ∷ fs) (suc k) = omega (arith, start-suc f fs k, start-within fs k, length-all 0 f fs, length-from (0 + length f) fs)
+
+-- a corner's face is one of the file
+pub of-known : (fs : List (List ℕ)) (k c : ℕ) → Of fs k c → k < length fs
+unfolding startOf
+of-known fs k c o = go (decLt k (length fs))
   where
-    long : length (allCorners c (f ∷ fs)) ≡ length f + length (allCorners (c + length f) fs)
-    long = length-all c f fs
+    go : Dec (k < length fs) → k < length fs
+    go (yes l) = l
+    go (no l) =
+        let a : startOf fs k ≡ length (allCorners 0 fs) = rw (take-all k fs (omega arith)) in
+        let b : startOf fs (suc k) ≡ length (allCorners 0 fs) = rw (take-all (suc k) fs (omega arith)) in
+        absurd (omega (arith, o .from, o .upTo))
 
-    go : Dec (i < length f) → (i - length f < length (allCorners (c + length f) fs) → InFace (c + length f) fs (i - length f)) → InFace c (f ∷ fs) i
-    go (yes l) rec = record {
-      nr = 0;
-      start = 0;
-      face = f;
-      known = omega arith;
-      is = refl;
-      from = omega arith;
-      upTo = omega arith;
-      within = omega (arith, long);
-      all = λ j hj. let a : 0 + j ≡ j = omega arith in let b : c + 0 ≡ c = omega arith in rw (a, b) (corner-here c f fs j hj);
-    }
+-- each corner is one of a face
+pub of-some : (fs : List (List ℕ)) (c : ℕ) → c < length (allCorners 0 fs) → (k : ℕ) × Of fs k c
+unfolding allCorners
+of-some [] c h = absurd (omega arith)
+of-some (f ∷ fs) c h = go (decLt c (length f)) (λ l. of-some fs (c - length f) l)
+  where
+    go : Dec (c < length f) → (c - length f < length (allCorners 0 fs) → (k : ℕ) × Of fs k (c - length f)) → (k : ℕ) × Of (f ∷ fs) k c
+    go (yes l) rec = (0, record { from = omega (arith, start-zero (f ∷ fs)); upTo = omega (arith, start-suc f fs 0) })
     go (no l) rec =
-        let r = rec (omega (arith, long)) in
-        record {
-          nr = suc (r .nr);
-          start = length f + r .start;
-          face = r .face;
-          known = omega (arith, r .known);
-          is = r .is;
-          from = omega (arith, r .from);
-          upTo = omega (arith, r .upTo);
-          within = omega (arith, long, r .within);
-          all = λ j hj.
-              let a : length f + r .start + j ≡ length f + (r .start + j) = omega arith in
-              let b : c + (length f + r .start) ≡ c + length f + r .start = omega arith in
-              rw (a, b) (corner-later c f fs (r .start + j) ∙ r .all j hj);
-        }
+        let (k, o) = rec (omega (arith, length-all 0 f fs, length-from (0 + length f) fs)) in
+        (suc k, record { from = omega (arith, start-suc f fs k, o .from); upTo = omega (arith, start-suc f fs (suc k), o .upTo) })
+
+-- corner j of face k, among all
+corner-from : (b : ℕ) (fs : List (List ℕ)) (k j : ℕ) → k < length fs → j < length (getD fs k [])
+    → cornerAt (allCorners b fs) (startOf fs k + j) ≡ cornerOf (b + startOf fs k) (getD fs k []) j
+corner-from b [] k j h l = absurd (omega arith)
+corner-from b (f ∷ fs) zero j h l =
+    let x : 0 + j ≡ j = omega arith in
+    let y : b + 0 ≡ b = omega arith in
+    rw (start-zero (f ∷ fs), x, y) (corner-here b f fs j l)
+corner-from b (f ∷ fs) (suc k) j h l =
+    let x : length f + startOf fs k + j ≡ length f + (startOf fs k + j) = omega arith in
+    let y : b + (length f + startOf fs k) ≡ b + length f + startOf fs k = omega arith in
+    rw (start-suc f fs k, x, y) (corner-later b f fs (startOf fs k + j) ∙ corner-from (b + length f) fs k j (omega arith) l)
+
+pub corner-of : (fs : List (List ℕ)) (k j : ℕ) → k < length fs → j < length (getD fs k [])
+    → cornerAt (allCorners 0 fs) (startOf fs k + j) ≡ cornerOf (startOf fs k) (getD fs k []) j
+corner-of fs k j h l = let x : 0 + startOf fs k ≡ startOf fs k = omega arith in rw x at (corner-from 0 fs k j h l)
 
 -- what the place of a corner in a list tells: its face's corners are those from its first one on, and all of them agree on where the face begins and ends
 pub record Frame (cs : List Corner) (c : ℕ) : Type 0 where
@@ -143,52 +166,52 @@ pub record Frame (cs : List Corner) (c : ℕ) : Type 0 where
 abbrev pub Framed : List Corner → Type 0
 Framed cs = (c : ℕ) → c < length cs → Frame cs c
 
--- what a corner of a face says of it
-module _ {fs : List (List ℕ)} {i : ℕ} (r : InFace 0 fs i) where
-  -- it begins at its start, and ends after its length
-  spot : (c : ℕ) → r .start ≤ c → c < r .start + length (r .face) → cornerAt (allCorners 0 fs) c ≡ cornerOf (r .start) (r .face) (c - r .start)
-  spot c h l =
-      let a : r .start + (c - r .start) ≡ c = omega arith in
-      let b : 0 + r .start ≡ r .start = omega arith in
-      rw (a, b) at (r .all (c - r .start) (omega arith))
+-- what a corner of face k says: where the face begins and ends
+module _ (fs : List (List ℕ)) (k c : ℕ) (o : Of fs k c) where
+  spot : cornerAt (allCorners 0 fs) c ≡ cornerOf (startOf fs k) (getD fs k []) (c - startOf fs k)
+  spot =
+      let h = of-known fs k c o in
+      let z : startOf fs k + (c - startOf fs k) ≡ c = omega (arith, o .from) in
+      rw z at (corner-of fs k (c - startOf fs k) h (omega (arith, o .from, o .upTo, start-next fs k h)))
 
-  pub starts-at : (c : ℕ) → r .start ≤ c → c < r .start + length (r .face) → cornerAt (allCorners 0 fs) c .first ≡ r .start
+  pub of-first : cornerAt (allCorners 0 fs) c .first ≡ startOf fs k
   unfolding cornerOf cornerTo
-  starts-at c h l = ap (λ (k : Corner). k .first) (spot c h l)
+  of-first = ap (λ (x : Corner). x .first) spot
 
-  pub ends-at : (c : ℕ) → r .start ≤ c → c < r .start + length (r .face) → c + cornerAt (allCorners 0 fs) c .left ≡ r .start + length (r .face)
+  pub of-end : c + cornerAt (allCorners 0 fs) c .left ≡ startOf fs (suc k)
   unfolding cornerOf cornerTo
-  ends-at c h l =
-      let e : cornerAt (allCorners 0 fs) c .left ≡ length (r .face) - (c - r .start) = ap (λ (k : Corner). k .left) (spot c h l) in
-      omega arith
+  of-end = let e = ap (λ (x : Corner). x .left) spot in omega (arith, o .from, o .upTo, start-next fs k (of-known fs k c o))
 
   -- its own vertex
-  pub own-at : (c : ℕ) → r .start ≤ c → c < r .start + length (r .face) → cornerAt (allCorners 0 fs) c .own ≡ getD (r .face) (c - r .start) 0
+  pub own-at : cornerAt (allCorners 0 fs) c .own ≡ getD (getD fs k []) (c - startOf fs k) 0
   unfolding cornerOf cornerTo
-  own-at c h l = ap (λ (k : Corner). k .own) (spot c h l)
+  own-at = ap (λ (x : Corner). x .own) spot
 
   -- the far vertex: that of the next corner of the face, or of its first
-  pub far-at : (c : ℕ) → r .start ≤ c → suc c < r .start + length (r .face) → cornerAt (allCorners 0 fs) c .far ≡ getD (r .face) (suc c - r .start) 0
+  pub far-at : suc c < startOf fs (suc k) → cornerAt (allCorners 0 fs) c .far ≡ getD (getD fs k []) (suc c - startOf fs k) 0
   unfolding cornerOf cornerTo
-  far-at c h l =
-      let e : suc c - r .start ≡ suc (c - r .start) = omega arith in
-      ap (λ (k : Corner). k .far) (spot c h (omega arith)) ∙ rw (lt-ltb (suc (c - r .start)) (length (r .face)) (omega arith), e)
+  far-at l =
+      let e : suc c - startOf fs k ≡ suc (c - startOf fs k) = omega (arith, o .from) in
+      let m : suc (c - startOf fs k) < length (getD fs k []) = omega (arith, o .from, start-next fs k (of-known fs k c o)) in
+      ap (λ (x : Corner). x .far) spot ∙ rw (lt-ltb (suc (c - startOf fs k)) (length (getD fs k [])) m, e)
 
-  pub far-last : (c : ℕ) → r .start ≤ c → suc c ≡ r .start + length (r .face) → cornerAt (allCorners 0 fs) c .far ≡ getD (r .face) 0 0
+  pub far-last : suc c ≡ startOf fs (suc k) → cornerAt (allCorners 0 fs) c .far ≡ getD (getD fs k []) 0 0
   unfolding cornerOf cornerTo
-  far-last c h l = ap (λ (k : Corner). k .far) (spot c h (omega arith)) ∙ rw (le-ltb (suc (c - r .start)) (length (r .face)) (omega arith))
+  far-last l =
+      let m : length (getD fs k []) ≤ suc (c - startOf fs k) = omega (arith, o .from, start-next fs k (of-known fs k c o)) in
+      ap (λ (x : Corner). x .far) spot ∙ rw (le-ltb (suc (c - startOf fs k)) (length (getD fs k [])) m)
 
 pub framed : (fs : List (List ℕ)) → Framed (allCorners 0 fs)
 framed fs c h =
-    let r = in-face 0 fs c h in
-    let a = starts-at r c (r .from) (r .upTo) in
-    let e = ends-at r c (r .from) (r .upTo) in
+    let (k, o) = of-some fs c h in
+    let a = of-first fs k c o in
+    let e = of-end fs k c o in
     record {
-      first-le = omega (arith, a, r .from);
-      left-some = omega (arith, e, r .upTo);
-      within = omega (arith, e, r .within);
-      same-first = λ j hj lj. starts-at r j (omega (arith, a)) (omega (arith, e)) ∙ sym a;
-      same-end = λ j hj lj. ends-at r j (omega (arith, a)) (omega (arith, e)) ∙ sym e;
+      first-le = omega (arith, a, o .from);
+      left-some = omega (arith, e, o .upTo);
+      within = omega (arith, e, start-within fs (suc k));
+      same-first = λ j hj lj. of-first fs k j (record { from = omega (arith, a); upTo = omega (arith, e) }) ∙ sym a;
+      same-end = λ j hj lj. of-end fs k j (record { from = omega (arith, a); upTo = omega (arith, e) }) ∙ sym e;
     }
 
 -- the corners around a corner, in any list
@@ -291,22 +314,23 @@ far-next fs c h = go (ℕ-discrete (cornerAt cs c .left) 1)
     cs : List Corner
     cs = allCorners 0 fs
 
-    r : InFace 0 fs c
-    r = in-face 0 fs c h
+    k : ℕ
+    k = of-some fs c h .0
 
-    e : c + cornerAt cs c .left ≡ r .start + length (r .face)
-    e = ends-at r c (r .from) (r .upTo)
+    o : Of fs k c
+    o = of-some fs c h .1
 
     go : Dec (cornerAt cs c .left ≡ 1) → cornerAt cs c .far ≡ cornerAt cs (cornerAfter cs c) .own
     go (yes q) =
-        let s : cornerAfter cs c ≡ r .start = after-last cs c q ∙ starts-at r c (r .from) (r .upTo) in
-        let z : r .start - r .start ≡ 0 = omega arith in
-        far-last r c (r .from) (omega (arith, e, q))
-        ∙ sym (ap (λ (x : ℕ). cornerAt cs x .own) s ∙ (own-at r (r .start) (omega arith) (omega (arith, r .from, r .upTo)) ∙ rw z))
+        let s : cornerAfter cs c ≡ startOf fs k = after-last cs c q ∙ of-first fs k c o in
+        let z : startOf fs k - startOf fs k ≡ 0 = omega arith in
+        far-last fs k c o (omega (arith, of-end fs k c o, q))
+        ∙ sym (ap (λ (x : ℕ). cornerAt cs x .own) s
+        ∙ (own-at fs k (startOf fs k) (record { from = omega arith; upTo = omega (arith, o .from, o .upTo) }) ∙ rw z))
     go (no q) =
         let s : cornerAfter cs c ≡ suc c = after-other cs c q ∙ omega arith in
-        let l : suc c < r .start + length (r .face) = omega (arith, e, q, r .upTo) in
-        far-at r c (r .from) l ∙ sym (ap (λ (x : ℕ). cornerAt cs x .own) s ∙ own-at r (suc c) (omega (arith, r .from)) l)
+        let l : suc c < startOf fs (suc k) = omega (arith, of-end fs k c o, q, o .upTo) in
+        far-at fs k c o l ∙ sym (ap (λ (x : ℕ). cornerAt cs x .own) s ∙ own-at fs k (suc c) (record { from = omega (arith, o .from); upTo = l }))
 
 -- a test that no entry of a list passes
 pub or-none : (a b : Bool) → (a || b) ≡ false → (a ≡ false) × (b ≡ false)
@@ -341,6 +365,7 @@ module _ (fs : List (List ℕ)) (e : some poor fs ≡ false) where
   -- each corner's two vertices are not equal
   pub own-far : (c : ℕ) → c < length (allCorners 0 fs) → cornerAt (allCorners 0 fs) c .own ≢ cornerAt (allCorners 0 fs) c .far
   own-far c h =
-      let r = in-face 0 fs c h in
-      let p : poor (r .face) ≡ false = rw (r .is) at (some-none poor fs e (r .nr) [] (r .known)) in
-      rw (spot r c (r .from) (r .upTo)) (face-apart (r .face) p (r .start) (c - r .start) (omega (arith, r .from, r .upTo)))
+      let (k, o) = of-some fs c h in
+      let l = of-known fs k c o in
+      rw (spot fs k c o)
+      (face-apart (getD fs k []) (some-none poor fs e k [] l) (startOf fs k) (c - startOf fs k) (omega (arith, o .from, o .upTo, start-next fs k l)))

@@ -1,14 +1,14 @@
 -- A face file is refused by 27, 28 or 29 exactly where that number's case holds of a face, no case of a face before it does, and no lower number's of the
 -- same face; where no case holds, what comes later decides. Rests on Lists, Counts, Corners and Built.
 use Prim.Native.Nat.{ℕ, zero, suc, _+_, _*_, _-_, _≤_, _<_}
-use mathlib.Core.Path.{_≡_, refl, ap, sym, _∙_}
+use mathlib.Core.Path.{_≡_, refl, sym, _∙_}
 use mathlib.Core.Logic.{_⊎_, inl, inr}
 use mathlib.Core.Bool.{Bool, true, false}
 use mathlib.Core.List.{List, [], _∷_}
 use native.Mathlib.Omega.{arith}
 use native.Mathlib.Decide.{decLt}
-use lib.ListN.{length, getD, take, drop, drop-of-length-le}
-use lib.Seq.{drop-cons, take-all}
+use lib.ListN.{length, getD, drop, drop-of-length-le}
+use lib.Seq.{drop-cons}
 use lib.Dec.{eqb, ltb, leb}
 use borrow.Author.Tests.{lt-ltb, le-ltb, ltb-true, le-leb, leb-true, leb-false, eqb-true}
 use Rattle.rules.specs.Lists.{someBelow}
@@ -17,21 +17,13 @@ use Rattle.shapes.specs.Faces.{Corner, corners, allCorners, cornerAt, al
 use Rattle.rules.proofs.Lists.{or-cases, not-both, some-below, below-some}
 use Rattle.shapes.proofs.Counts.{count-two, two-count}
 use Rattle.shapes.proofs.Built.{alike-cases, alike-straight, alike-crossed}
-use Rattle.shapes.proofs.Corners.{cornerOf, cornerTo, length-corners, length-all, length-from, corners-at, some-none, none-some, face-three, face-apart}
+use Rattle.shapes.proofs.Corners.{cornerOf, cornerTo, length-corners, corners-at, startOf, Of, start-zero, start-next, of-known, of-some}
+use Rattle.shapes.proofs.Corners.{some-none, none-some, face-three, face-apart}
 
 -- two sides have the same two vertices, along each other or against
 pub data SameTwo (x y : Corner) : Type 0 where
   along : x .own ≡ y .own → x .far ≡ y .far → SameTwo x y
   against : x .own ≡ y .far → x .far ≡ y .own → SameTwo x y
-
--- the first corner of face k: as many as the faces before it have
-unfoldable pub startOf : List (List ℕ) → ℕ → ℕ
-startOf fs k = length (allCorners 0 (take k fs))
-
--- corner c is one of face k
-pub record Of (fs : List (List ℕ)) (k c : ℕ) : Type 0 where
-  pub from : startOf fs k ≤ c
-  pub upTo : c < startOf fs (suc k)
 
 -- document 02, E5: when each number's case holds of a face. 27: a vertex number too large; 28: fewer than three corners or two equal neighbours, last and
 -- first included; 29: a side used a third time
@@ -78,45 +70,6 @@ unfolding third
 thrice-third cs c a b l m p q =
     le-leb 2 _ (count-two c (λ e. alike (cornerAt cs c) (cornerAt cs e)) a b l m
     (same-alike (cornerAt cs c) (cornerAt cs a) (same-flip p)) (same-alike (cornerAt cs c) (cornerAt cs b) (same-flip q)))
-
--- where each face starts
-start-zero : (fs : List (List ℕ)) → startOf fs 0 ≡ 0
-unfolding startOf allCorners
-start-zero fs = refl
-
-start-suc : (f : List ℕ) (fs : List (List ℕ)) (k : ℕ) → startOf (f ∷ fs) (suc k) ≡ length f + startOf fs k
-unfolding startOf
-start-suc f fs k = length-all 0 f (take k fs) ∙ ap (λ (n : ℕ). length f + n) (length-from (0 + length f) (take k fs))
-
--- after the corners of the face before
-pub start-next : (fs : List (List ℕ)) (k : ℕ) → k < length fs → startOf fs (suc k) ≡ startOf fs k + length (getD fs k [])
-start-next [] k h = absurd (omega arith)
-start-next (f ∷ fs) zero h = omega (arith, start-suc f fs 0, start-zero fs, start-zero (f ∷ fs))
-start-next (f ∷ fs) (suc k) h = omega (arith, start-suc f fs k, start-suc f fs (suc k), start-next fs k (omega arith))
-
--- a corner's face is one of the file
-pub of-known : (fs : List (List ℕ)) (k c : ℕ) → Of fs k c → k < length fs
-unfolding startOf
-of-known fs k c o = go (decLt k (length fs))
-  where
-    go : Dec (k < length fs) → k < length fs
-    go (yes l) = l
-    go (no l) =
-        let a : startOf fs k ≡ length (allCorners 0 fs) = rw (take-all k fs (omega arith)) in
-        let b : startOf fs (suc k) ≡ length (allCorners 0 fs) = rw (take-all (suc k) fs (omega arith)) in
-        absurd (omega (arith, o .from, o .upTo))
-
--- each corner is one of a face
-pub of-some : (fs : List (List ℕ)) (c : ℕ) → c < length (allCorners 0 fs) → (k : ℕ) × Of fs k c
-unfolding allCorners
-of-some [] c h = absurd (omega arith)
-of-some (f ∷ fs) c h = go (decLt c (length f)) (λ l. of-some fs (c - length f) l)
-  where
-    go : Dec (c < length f) → (c - length f < length (allCorners 0 fs) → (k : ℕ) × Of fs k (c - length f)) → (k : ℕ) × Of (f ∷ fs) k c
-    go (yes l) rec = (0, record { from = omega (arith, start-zero (f ∷ fs)); upTo = omega (arith, start-suc f fs 0) })
-    go (no l) rec =
-        let (k, o) = rec (omega (arith, length-all 0 f fs, length-from (0 + length f) fs)) in
-        (suc k, record { from = omega (arith, start-suc f fs k, o .from); upTo = omega (arith, start-suc f fs (suc k), o .upTo) })
 
 -- a test that some entry of a list passes
 some-at : {A : Type 0} (f : A → Bool) (xs : List A) (x : A) → some f xs ≡ true → (i : ℕ) × (i < length xs) × (f (getD xs i x) ≡ true)

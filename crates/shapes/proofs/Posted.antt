@@ -3,12 +3,13 @@
 use Prim.Native.Nat.{ℕ, zero, suc, _+_, _*_, _-_, _/_, _≤_, _<_}
 use mathlib.Core.Path.{_≡_, refl, ap, sym, _∙_}
 use mathlib.Core.Logic.{_≢_, _⊎_, inl, inr}
-use mathlib.Core.Bool.{true, false}
-use mathlib.Core.List.{List, [], _∷_}
+use mathlib.Core.Bool.{true, false, cond}
+use mathlib.Core.List.{List, []}
 use native.Mathlib.Omega.{arith}
 use native.Mathlib.Decide.{ℕ-discrete, decLt, decLe}
-use lib.ListN.{length, take}
-use borrow.Author.Tests.{lt-leb}
+use lib.ListN.{length, getD}
+use lib.Dec.{ltb}
+use borrow.Author.Tests.{lt-leb, lt-ltb, le-ltb}
 use Rattle.rules.specs.Map.{Layout, size, link, Reached, allRanks, allBut, Valid, Limits}
 use Rattle.rules.specs.Check.{Verdict, verdict}
 use Rattle.shapes.specs.Text.{Read, bad, good, File, file}
@@ -18,11 +19,11 @@ use Rattle.rules.proofs.Firsts.{Least, first-refuted}
 use Rattle.rules.proofs.Pairs.{pair-breaks}
 use Rattle.rules.proofs.Orbits.{Closed, valid-closed, reached-trans, reached-below, reached-sym}
 use Rattle.rules.proofs.Check.{Case, Passes, refused-case, case-refused, fine-passes, passes-fine}
-use Rattle.shapes.proofs.Corners.{cornerOf, cornerTo, length-all, length-from, corner-here, corner-later, framed, own-far, after-last, after-other}
-use Rattle.shapes.proofs.Corners.{next-first, first-first, after-below, before-below, before-after, after-before, far-next}
+use Rattle.shapes.proofs.Corners.{startOf, start-next, Of, of-known, of-first, of-end, own-at, far-at, far-last, framed, own-far, after-last}
+use Rattle.shapes.proofs.Corners.{after-other, next-first, first-first, after-below, before-below, before-after, after-before, far-next}
 use Rattle.shapes.proofs.Built.{Twice, by-ends, vertex-own, vertex-far, zero-own, zero-far, one-own, one-far, free-own, free-far, Joined, joined}
 use Rattle.shapes.proofs.Built.{twin-other, twin-alike, twin-only, two-vertex, built-length, built-link, built-valid}
-use Rattle.shapes.proofs.FaceCases.{SameTwo, alike-same, same-alike, startOf, start-next, Of, of-known, FaceCase, case-number, Earlier, FacesDecided}
+use Rattle.shapes.proofs.FaceCases.{SameTwo, alike-same, same-alike, FaceCase, case-number, Earlier, FacesDecided}
 use Rattle.shapes.proofs.FaceCases.{faces-decided, case-faces, Flawless, flawless-faces}
 
 -- of a valid map with room for it only 9 can hold of the check from root 0
@@ -329,27 +330,52 @@ module _ (Y : Layout) (text t : List ℕ) (room : ℕ) where
       holds m p e (λ nr k x. none nr k (faceFirst (case-number (m .vertices) (m .faces) x) (omega arith)) (flawed m p e x))
       (none 3 0 (byNumber (omega arith) (omega arith)))
 
--- a corner of face k: its face's first corner is the first of face k
-start-later : (f : List ℕ) (fs : List (List ℕ)) (k : ℕ) → startOf (f ∷ fs) (suc k) ≡ length f + startOf fs k
-unfolding startOf
-start-later f fs k = length-all 0 f (take k fs) ∙ ap (λ (n : ℕ). length f + n) (length-from (0 + length f) (take k fs))
+-- the corner of a face after corner j, the first one after the last
+unfoldable pub nextIn : List ℕ → ℕ → ℕ
+nextIn f j = cond (ltb (suc j) (length f)) (suc j) 0
 
-first-from : (b : ℕ) (fs : List (List ℕ)) (k c : ℕ) → Of fs k c → cornerAt (allCorners b fs) c .first ≡ b + startOf fs k
-unfolding startOf allCorners cornerOf cornerTo
-first-from b [] k c o = absurd (omega (arith, of-known [] k c o))
-first-from b (f ∷ fs) zero c o =
-    let h : c < length f = omega (arith, o .upTo, start-later f fs 0) in
-    ap (λ (x : Corner). x .first) (corner-here b f fs c h) ∙ omega arith
-first-from b (f ∷ fs) (suc k) c o =
-    let i = c - length f in
-    let z : length f + i ≡ c = omega (arith, o .from, start-later f fs k) in
-    let a : startOf fs k ≤ i = omega (arith, o .from, start-later f fs k) in
-    let l : i < startOf fs (suc k) = omega (arith, o .from, o .upTo, start-later f fs k, start-later f fs (suc k)) in
-    let q : cornerAt (allCorners b (f ∷ fs)) c ≡ cornerAt (allCorners (b + length f) fs) i = rw z at (corner-later b f fs i) in
-    ap (λ (x : Corner). x .first) q ∙ (first-from (b + length f) fs k i (record { from = a; upTo = l }) ∙ omega (arith, start-later f fs k))
+-- document 02, E5, "Each corner, in file order, gives two darts, own end first, on the side to its next corner": corner j of face k is corner c of all, which
+-- has the darts 2c and 2c + 1
+pub record CornerIs (fs : List (List ℕ)) (k j c : ℕ) : Type 0 where
+  pub own-end : vertexOf (allCorners 0 fs) (2 * c) ≡ getD (getD fs k []) j 0
+  pub far-end : vertexOf (allCorners 0 fs) (2 * c + 1) ≡ getD (getD fs k []) (nextIn (getD fs k []) j) 0
+  pub next : cornerAfter (allCorners 0 fs) c ≡ startOf fs k + nextIn (getD fs k []) j
 
-pub of-first : (fs : List (List ℕ)) (k c : ℕ) → Of fs k c → cornerAt (allCorners 0 fs) c .first ≡ startOf fs k
-of-first fs k c o = first-from 0 fs k c o ∙ omega arith
+pub corner-is : (fs : List (List ℕ)) (k j : ℕ) → k < length fs → j < length (getD fs k []) → CornerIs fs k j (startOf fs k + j)
+unfolding nextIn
+corner-is fs k j h l = go (decLt (suc j) (length f))
+  where
+    f : List ℕ
+    f = getD fs k []
+
+    cs : List Corner
+    cs = allCorners 0 fs
+
+    c : ℕ
+    c = startOf fs k + j
+
+    o : Of fs k c
+    o = record { from = omega arith; upTo = omega (arith, start-next fs k h) }
+
+    own : vertexOf cs (2 * c) ≡ getD f j 0
+    own = let z : c - startOf fs k ≡ j = omega arith in rw z at (vertex-own cs c ∙ own-at fs k c o)
+
+    go : Dec (suc j < length f) → CornerIs fs k j c
+    go (yes m) =
+        let e = lt-ltb (suc j) (length f) m in
+        let z : suc c - startOf fs k ≡ suc j = omega arith in
+        record {
+          own-end = own;
+          far-end = rw e (rw z at (vertex-far cs c ∙ far-at fs k c o (omega (arith, start-next fs k h))));
+          next = rw e (after-other cs c (λ q. omega (arith, of-end fs k c o, start-next fs k h)) ∙ omega arith);
+        }
+    go (no m) =
+        let e = le-ltb (suc j) (length f) (omega arith) in
+        record {
+          own-end = own;
+          far-end = rw e (vertex-far cs c ∙ far-last fs k c o (omega (arith, start-next fs k h)));
+          next = rw e (after-last cs c (omega (arith, of-end fs k c o, start-next fs k h)) ∙ (of-first fs k c o ∙ omega arith));
+        }
 
 -- a later face starts no earlier
 start-le : (fs : List (List ℕ)) (k m : ℕ) → k ≤ m → m < length fs → startOf fs k ≤ startOf fs m

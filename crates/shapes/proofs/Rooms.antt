@@ -1,5 +1,6 @@
 -- What was in the rooms before is not read: the answer depends on the text and on the rooms' lengths alone, what is written depends on the text alone, and what
--- is past the map's entries stays. Rests on Built, Posted and the rules' Past.
+-- is past the map's entries stays. All refusals but 9 change nothing; after 0 and 9 the rooms are the check's. Rests on Built, FaceCases, Posted and the rules'
+-- Past.
 use Prim.Native.Nat.{ℕ, _≤_, _<_}
 use mathlib.Core.Path.{_≡_, refl, ap, sym, _∙_}
 use mathlib.Core.Logic.{_≢_, _⊎_, inl, inr}
@@ -10,19 +11,20 @@ use native.Mathlib.Decide.{decLe}
 use lib.ListN.{length, take, drop}
 use lib.Seq.{take-append-le, take-all, drop-at}
 use lib.Dec.{eqb}
-use borrow.Author.Tests.{lt-leb, lt-ltb}
+use borrow.Author.Tests.{lt-leb, lt-ltb, ne-eqb}
 use Rattle.rules.specs.declared.CheckAnswer.{CheckAnswer}
 use Rattle.rules.specs.Map.{Layout, size, dimFits, dartsFit}
-use Rattle.rules.specs.Check.{Verdict, refuseIf, verdict, checkAnswerOf, checkAnswer}
+use Rattle.rules.specs.Check.{Verdict, refuseIf, verdict, workAfter, checkAnswerOf, checkAnswer, checkWork}
 use Rattle.rules.proofs.Check.{refused-some}
 use Rattle.rules.proofs.Places.{Alike}
 use Rattle.rules.proofs.Layouts.{laid}
 use Rattle.rules.proofs.Past.{check-alike}
 use Rattle.shapes.specs.Text.{Read, bad, good, File, file}
 use Rattle.shapes.specs.Faces.{Corner, allCorners, facesVerdict, dartsOf, linkFrom, mapOn, cornersOf, readVerdict, facesAnswerOf, tablesAfter}
-use Rattle.shapes.specs.Faces.{facesAnswer, facesTables}
+use Rattle.shapes.specs.Faces.{refusal, facesAnswer, facesTables, facesWork}
 use Rattle.shapes.proofs.Built.{built-is, laid-long}
-use Rattle.shapes.proofs.Posted.{on-length}
+use Rattle.shapes.proofs.FaceCases.{FacesDecided, faces-decided, case-number}
+use Rattle.shapes.proofs.Posted.{on-length, cornersIn, dartsIn, tablesIn}
 
 -- a verdict is told by the check's answer
 told : (v w : Verdict) → ((nr p : ℕ) → v ≡ Verdict.refused nr p → nr ≢ 0) → ((nr p : ℕ) → w ≡ Verdict.refused nr p → nr ≢ 0)
@@ -135,3 +137,53 @@ past-stays Y text t work = go (readVerdict Y (file text) t (length work))
         nine : (b : Bool) → drop (size 2 (dartsOf cs)) (cond b (mapOn Y cs t) t) ≡ drop (size 2 (dartsOf cs)) t
         nine true = on
         nine false = refl
+
+-- all refusals but 9 change nothing
+pub others-leave : (Y : Layout) (text t work : List ℕ) → facesAnswer Y text t work .number ≢ 0 → facesAnswer Y text t work .number ≢ 9
+    → (facesTables Y text t work ≡ t) × (facesWork Y text t work ≡ work)
+unfolding facesAnswer facesAnswerOf refusal facesTables tablesAfter facesWork workAfter
+others-leave Y text t work = go (readVerdict Y (file text) t (length work))
+  where
+    cs : List Corner
+    cs = cornersOf (file text)
+
+    go : (v : Verdict) → facesAnswerOf (dartsOf cs) v .number ≢ 0 → facesAnswerOf (dartsOf cs) v .number ≢ 9
+        → (tablesAfter Y cs t v ≡ t) × (workAfter Y 2 (dartsOf cs) 0 (mapOn Y cs t) work v ≡ work)
+    go Verdict.fine n m = absurd (n refl)
+    go (Verdict.refused nr p) n m = rw (ne-eqb nr 9 m) (refl, refl)
+
+-- after 0 and 9 the tables hold the map, and number, place and work room are those of its check from root 0
+pub as-checked : (Y : Layout) (text t work : List ℕ) (m : File) (p : ℕ) → file text ≡ good m p
+    → (facesAnswer Y text t work .number ≡ 0) ⊎ (facesAnswer Y text t work .number ≡ 9)
+    → (facesTables Y text t work ≡ tablesIn Y m t)
+    × (checkAnswer Y 2 (dartsIn m) 0 (tablesIn Y m t) work ≡ record { number = facesAnswer Y text t work .number; place = facesAnswer Y text t work .place })
+    × (facesWork Y text t work ≡ checkWork Y 2 (dartsIn m) 0 (tablesIn Y m t) work)
+unfolding facesAnswer facesAnswerOf refusal facesTables tablesAfter facesWork readVerdict cornersOf checkAnswer checkAnswerOf checkWork
+as-checked Y text t work m p e o = rw e (go (faces-decided (m .vertices) (m .faces)) (rw e at o))
+  where
+    checked : Verdict
+    checked = verdict Y 2 (dartsIn m) 0 (tablesIn Y m t) (length work)
+
+    judged : Verdict
+    judged = facesVerdict (m .vertices) (cornersIn m) 0 0 (m .faces) checked
+
+    on : (v : Verdict) → (facesAnswerOf (dartsIn m) v .number ≡ 0) ⊎ (facesAnswerOf (dartsIn m) v .number ≡ 9)
+        → ((nr p : ℕ) → v ≡ Verdict.refused nr p → nr ≢ 0) → (tablesAfter Y (cornersIn m) t v ≡ tablesIn Y m t)
+        × (checkAnswerOf v ≡ record { number = facesAnswerOf (dartsIn m) v .number; place = facesAnswerOf (dartsIn m) v .place })
+    on Verdict.fine o h = (refl, refl)
+    on (Verdict.refused nr q) (inl z) h = absurd (h nr q refl z)
+    on (Verdict.refused nr q) (inr z) h = rw z (refl, refl)
+
+    go : FacesDecided (m .vertices) (m .faces) → (facesAnswerOf (dartsIn m) judged .number ≡ 0) ⊎ (facesAnswerOf (dartsIn m) judged .number ≡ 9)
+        → (tablesAfter Y (cornersIn m) t judged ≡ tablesIn Y m t)
+        × (checkAnswerOf checked ≡ record { number = facesAnswerOf (dartsIn m) judged .number; place = facesAnswerOf (dartsIn m) judged .place })
+        × (workAfter Y 2 (dartsIn m) 0 (tablesIn Y m t) work judged ≡ workAfter Y 2 (dartsIn m) 0 (tablesIn Y m t) work checked)
+    go (FacesDecided.found nr k c first q) o = absurd (far (rw (q checked) at o))
+      where
+        far : (nr ≡ 0) ⊎ (nr ≡ 9) → ⊥
+        far (inl z) = omega (arith, case-number (m .vertices) (m .faces) c .0)
+        far (inr z) = omega (arith, case-number (m .vertices) (m .faces) c .0)
+    go (FacesDecided.none clean q) o =
+        let z = q checked in
+        let (x, y) = on checked (rw z at o) (λ nr p e. refused-some Y 2 (dartsIn m) 0 (tablesIn Y m t) (length work) nr p e) in
+        rw z (x, y, refl)

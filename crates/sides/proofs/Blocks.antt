@@ -17,6 +17,7 @@ use Rattle.corners.specs.Steps.{begun, stepOf, stepAt, positionAfter}
 use Rattle.corners.proofs.Steps.{step-fresh, position-step, position-fresh, position-join}
 use Rattle.sides.specs.Sides.{keyOf, keyAt, thirdUse, Grown, Swept, Enters, Meets, Kept, Stops, GoesOn}
 use Rattle.sides.proofs.Paths.{grown-more}
+use Rattle.sides.proofs.Ways.{sown-none}
 use Rattle.sides.proofs.Thirds.{stops-first, first-stops, stops-none, stops-early, stops-next}
 
 -- an empty table
@@ -27,6 +28,7 @@ swept-none tree keys twins kf e hk ht = record {
   keys2048 = hk;
   twins2048 = ht;
   grown = record { few = omega arith; below = λ at. omega (arith, zeros at); newer = λ at k q. absurd (omega (arith, zeros at)) };
+  sown = sown-none tree keys zeros;
   keyed = λ y h. absurd (omega arith);
   leads = λ y h. absurd (omega arith);
   twinned = λ y h. absurd (omega arith);

@@ -115,10 +115,10 @@ path-kept tree keys tree' keys' h q {x = x} (onward k f e p) =
 -- corner i, new, is put at a place that was free
 module _ (tree keys : List ℕ) (i key at : ℕ) (g : Grown tree i) (few : i < 2048) (n : getD tree at 0 ≡ 0) (low : at < 12288) (own : ownerOf at ≤ i)
     (ht : length tree ≡ 12288) (hk : length keys ≡ 2048) where
-  tree-old : (x : ℕ) → x ≢ at → getD (set tree at (i + 1)) x 0 ≡ getD tree x 0
+  pub tree-old : (x : ℕ) → x ≢ at → getD (set tree at (i + 1)) x 0 ≡ getD tree x 0
   tree-old x h = getD-set-other tree at x (i + 1) 0 h
 
-  tree-new : getD (set tree at (i + 1)) at 0 ≡ suc i
+  pub tree-new : getD (set tree at (i + 1)) at 0 ≡ suc i
   tree-new = getD-set-same tree at (i + 1) 0 (omega arith) ∙ omega arith
 
   pub held : (x k : ℕ) → getD tree x 0 ≡ suc k → (getD (set tree at (i + 1)) x 0 ≡ suc k) × (getD (set keys i key) k 0 ≡ getD keys k 0)

@@ -15,6 +15,7 @@ use Rattle.rules.proofs.Lists.{first-passes, first-before}
 use Rattle.sides.specs.declared.Spot.the-variants.{Found, Free}
 use Rattle.sides.specs.Sides.{ownerOf, Path, Twin, alone, paired, Swept, Third, Enters, Meets}
 use Rattle.sides.proofs.Paths.{path-one, found-key, found-low, free-none, free-low, grown-more, path-kept, held, path-new, grown-new}
+use Rattle.sides.proofs.Ways.{sown-key, sown-new}
 
 -- what a twin's entry tells
 twin-alone : (kf : ℕ → ℕ) (j y v : ℕ) → Twin kf j y v → v ≡ 65535 → (z : ℕ) → z < j → kf z ≡ kf y → z ≡ y
@@ -118,6 +119,7 @@ module _ (tree keys twins : List ℕ) (i key : ℕ) (few : i < 2048) where
         keys2048 = length-set keys i key ∙ w .keys2048;
         twins2048 = length-set twins i 65535 ∙ w .twins2048;
         grown = grown-new tree keys i key at (w .grown) few none (low .0) (low .1) (w .tree12288) (w .keys2048);
+        sown = sown-new tree keys i key at (w .grown) few (low .0) (low .1) (w .tree12288) (w .keys2048) p (w .sown);
         keyed = λ y h. keyed-next y h (ℕ-discrete y i);
         leads = λ y h f. leads y h f (ℕ-discrete y i);
         twinned = λ y h. twinned y h (ℕ-discrete y i);
@@ -156,6 +158,7 @@ module _ (tree keys twins : List ℕ) (i key : ℕ) (few : i < 2048) where
         keys2048 = length-set keys i key ∙ w .keys2048;
         twins2048 = length-set (set twins i k) k i ∙ (length-set twins i k ∙ w .twins2048);
         grown = grown-more tree i (i + 1) (w .grown) (omega arith) (omega arith);
+        sown = sown-key tree keys i key (w .grown) (w .sown);
         keyed = λ y h. keyed-next y h (ℕ-discrete y i);
         leads = λ y h f. leads y h f (ℕ-discrete y i);
         twinned = λ y h. twinned y h (ℕ-discrete y i) (ℕ-discrete y k);
@@ -212,6 +215,7 @@ module _ (tree keys twins : List ℕ) (key : ℕ) where
       keys2048 = w .keys2048;
       twins2048 = w .twins2048;
       grown = w .grown;
+      sown = w .sown;
       keyed = w .keyed;
       leads = w .leads;
       twinned = twin-free w ek n;
@@ -229,6 +233,7 @@ module _ (tree keys twins : List ℕ) (key : ℕ) where
       keys2048 = w .keys2048;
       twins2048 = length-set twins k 2048 ∙ w .twins2048;
       grown = w .grown;
+      sown = w .sown;
       keyed = w .keyed;
       leads = w .leads;
       twinned = λ y h. twinned y h (ℕ-discrete y k);

@@ -44,6 +44,16 @@ pub data Path (tree keys : List ℕ) (key : ℕ) : (rest at : ℕ) → spot.Spot
   onward : {rest at : ℕ} {r : spot.Spot} (k : ℕ) → getD tree at 0 ≡ suc k → getD keys k 0 ≢ key → Path tree keys key (rest / 2) (kid k rest) r
       → Path tree keys key rest at r
 
+-- the search for a key comes to a place after so many corners with other keys, and so much of the key is left
+pub data Way (tree : List ℕ) (key : ℕ) : (passed rest at : ℕ) → Type 0 where
+  begins : Way tree key 0 key (key % 4093)
+  goes : {j rest at : ℕ} (k : ℕ) → Way tree key j rest at → getD tree at 0 ≡ suc k → Way tree key (suc j) (rest / 2) (kid k rest)
+
+-- each corner of the tree has one place, and the search for its key comes there
+pub record Sown (tree keys : List ℕ) : Type 0 where
+  pub once : (a b k : ℕ) → getD tree a 0 ≡ suc k → getD tree b 0 ≡ suc k → a ≡ b
+  pub comes : (a k : ℕ) → getD tree a 0 ≡ suc k → (j : ℕ) × (rest : ℕ) × Way tree (getD keys k 0) j rest a
+
 -- of the first j corners, w tells of another one with the key of corner y: 65535 for none, and it itself where it is below 2048
 pub data Twin (kf : ℕ → ℕ) (j y : ℕ) : ℕ → Type 0 where
   alone : ((z : ℕ) → z < j → kf z ≡ kf y → z ≡ y) → Twin kf j y 65535
@@ -56,6 +66,7 @@ pub record Swept (tree keys twins : List ℕ) (kf : ℕ → ℕ) (m j : ℕ) : T
   pub keys2048 : length keys ≡ 2048
   pub twins2048 : length twins ≡ 2048
   pub grown : Grown tree m
+  pub sown : Sown tree keys
   pub keyed : (y : ℕ) → y < m → getD keys y 0 ≡ kf y
   pub leads : (y : ℕ) → y < m → ((z : ℕ) → z < y → kf z ≢ kf y) → Path tree keys (kf y) (kf y) (kf y % 4093) (spot.the-variants.Found y)
   pub twinned : (y : ℕ) → y < m → Twin kf j y (getD twins y 0)
