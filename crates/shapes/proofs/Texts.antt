@@ -6,7 +6,7 @@ use mathlib.Core.Logic.{_≢_, _⊎_, inl, inr}
 use mathlib.Core.Bool.{Bool, true, false, not, _&&_, _||_}
 use mathlib.Core.List.{List, [], _∷_, _++_, append-nil, append-assoc}
 use native.Mathlib.Omega.{arith}
-use native.Mathlib.Decide.{decLt}
+use native.Mathlib.Decide.{ℕ-discrete, decLt}
 use lib.ListN.{length, getD}
 use lib.Dec.{eqb, leb}
 use borrow.Author.Tests.{eqb-true, leb-true, eqb-false, eq-eqb, ne-eqb, lt-ltb, le-ltb, le-leb, not-true, not-false}
@@ -15,7 +15,7 @@ use Rattle.rules.specs.Map.{Layout}
 use Rattle.shapes.specs.Text.{isBlank, commented, gap, wordFrom, wordEnd, lineEnd, Read, bad, good, next, provided, word, keyword, isDigit, value, number}
 use Rattle.shapes.specs.Text.{several, face, File, file}
 use Rattle.shapes.specs.Faces.{cornersOf, readVerdict, facesAnswer, facesTables, facesWork}
-use Rattle.rules.proofs.Lists.{and-left, and-right, both, or-left, or-right, not-both, all-below, below-all, Scanned, scanned}
+use Rattle.rules.proofs.Lists.{and-left, and-right, or-left, or-right, not-both, all-below, below-all, Scanned, scanned}
 
 -- what is wanted next, with what was read and how many of its sort are left: the word OFF; the counts of vertices, faces and edges; words of vertices; faces;
 -- corners of a face, with the faces before it, how many faces are left after it, and its own corners so far; nothing more
@@ -78,12 +78,17 @@ module _ (t : List ℕ) where
   abbrev pub Bare : ℕ → Type 0
   Bare p = (i : ℕ) → p ≤ i → i < length t → Gap i
 
+  -- the k bytes from w on are decimal digits and write x: with one digit more it is ten times as much and the digit
+  pub data Decimal (w : ℕ) : (k x : ℕ) → Type 0 where
+    noDigit : Decimal w 0 0
+    oneMore : {k x d : ℕ} → Decimal w k x → d ≤ 9 → getD t (w + k) 0 ≡ 48 + d → Decimal w (suc k) (x * 10 + d)
+
   -- the word from w up to e is of the kind and says x, a number what its digits write, another word no more than its place: any word; the three bytes OFF;
   -- "Numbers have one to nine decimal digits" (a word has one byte at least)
   pub data Says : Kind → ℕ → ℕ → ℕ → Type 0 where
     isWord : {w e : ℕ} → Says aWord w e w
     isOff : {w e : ℕ} → e ≡ w + 3 → getD t w 0 ≡ 79 → getD t (w + 1) 0 ≡ 70 → getD t (w + 2) 0 ≡ 70 → Says off w e w
-    isNumber : {w e : ℕ} → e ≤ w + 9 → ((i : ℕ) → w ≤ i → i < e → (48 ≤ getD t i 0) × (getD t i 0 ≤ 57)) → Says aNumber w e (value t w (e - w))
+    isNumber : {w e k x : ℕ} → e ≡ w + k → k ≤ 9 → Decimal w k x → Says aNumber w e x
 
   -- the line from p on ends at q: "lines end at LF", or where the text does
   pub record LineEnd (p q : ℕ) : Type 0 where
@@ -258,15 +263,38 @@ module _ (t : List ℕ) where
   said off w e = provided (offTest w e) w (good w e)
   said aNumber w e = provided (numberTest w e) w (good (value t w (e - w)) e)
 
+  -- digits, and what they write
+  decimal-digit : {w k x : ℕ} → Decimal w k x → (i : ℕ) → i < k → isDigit (getD t (w + i) 0) ≡ true
+  unfolding isDigit
+  decimal-digit noDigit i h = absurd (omega arith)
+  decimal-digit {w} (oneMore {k} {x} {d} r l e) i h = go (ℕ-discrete i k) (λ o. decimal-digit r i o)
+    where
+      go : Dec (i ≡ k) → (i < k → isDigit (getD t (w + i) 0) ≡ true) → isDigit (getD t (w + i) 0) ≡ true
+      go (yes q) rec = rw (q, e, le-leb 48 (48 + d) (omega arith), le-leb (48 + d) 57 (omega arith))
+      go (no q) rec = rec (omega arith)
+
+  decimal-value : {w k x : ℕ} → Decimal w k x → value t w k ≡ x
+  unfolding value
+  decimal-value noDigit = refl
+  decimal-value {w} (oneMore {k} {x} {d} r l e) = let z : 48 + d - 48 ≡ d = omega arith in rw (decimal-value r, e, z)
+
+  value-decimal : (w k : ℕ) → ((i : ℕ) → i < k → isDigit (getD t (w + i) 0) ≡ true) → Decimal w k (value t w k)
+  unfolding value isDigit
+  value-decimal w zero h = noDigit
+  value-decimal w (suc k) h =
+      let d = h k (omega arith) in
+      let b = getD t (w + k) 0 in
+      let l = leb-true 48 b (and-left (leb 48 b) (leb b 57) d) in
+      let m = leb-true b 57 (and-right (leb 48 b) (leb b 57) d) in
+      oneMore {d = b - 48} (value-decimal w k (λ i o. h i (omega arith))) (omega arith) (omega arith)
+
   says-said : {k : Kind} {w e x : ℕ} → Says k w e x → said k w e ≡ good x e
-  unfolding said provided isDigit
+  unfolding said provided
   says-said isWord = refl
   says-said (isOff {w} {e} z a b c) = let y : e - w ≡ 3 = omega arith in rw (y, a, b, c)
-  says-said (isNumber {w} {e} h d) =
-      rw (le-leb (e - w) 9 (omega arith), below-all (e - w) (λ k. isDigit (getD t (w + k) 0)) (λ i l. digit (w + i) (d (w + i) (omega arith) (omega arith))))
-    where
-      digit : (i : ℕ) → (48 ≤ getD t i 0) × (getD t i 0 ≤ 57) → isDigit (getD t i 0) ≡ true
-      digit i d = both (leb 48 (getD t i 0)) (leb (getD t i 0) 57) (le-leb 48 (getD t i 0) (d .0)) (le-leb (getD t i 0) 57 (d .1))
+  says-said (isNumber {w} {e} {k} {x} z h d) =
+      let y : e - w ≡ k = omega arith in
+      rw (y, le-leb k 9 h, below-all k (λ i. isDigit (getD t (w + i) 0)) (decimal-digit d), decimal-value d)
 
   -- a word says something of its kind, or it is malformed
   data Judged (k : Kind) (w e : ℕ) : Read ℕ → Type 0 where
@@ -274,7 +302,7 @@ module _ (t : List ℕ) where
     unfit : ((x : ℕ) → ¬ Says k w e x) → Judged k w e (bad w)
 
   judged : (k : Kind) (w e : ℕ) → w < e → Judged k w e (said k w e)
-  unfolding said provided isDigit
+  unfolding said provided
   judged aWord w e h = fit w isWord
   judged off w e h = go (offTest w e) refl
     where
@@ -294,14 +322,9 @@ module _ (t : List ℕ) where
       go false q = unfit (λ x g. let r = rw q at (says-said g) in let z : _≡_ {A = ℕ} 0 1 = cc in omega arith)
       go true q =
           let l = leb-true (e - w) 9 (and-left (leb (e - w) 9) _ q) in
-          let nine : e ≤ w + 9 = omega arith in
-          fit (value t w (e - w)) (isNumber nine digit)
-        where
-          digit : (i : ℕ) → w ≤ i → i < e → (48 ≤ getD t i 0) × (getD t i 0 ≤ 57)
-          digit i x y =
-              let z : w + (i - w) ≡ i = omega arith in
-              let d = rw z at (all-below (e - w) (λ k. isDigit (getD t (w + k) 0)) (and-right (leb (e - w) 9) _ q) (i - w) (omega arith)) in
-              (leb-true 48 (getD t i 0) (and-left (leb 48 (getD t i 0)) _ d), leb-true (getD t i 0) 57 (and-right (leb 48 (getD t i 0)) _ d))
+          let z : e ≡ w + (e - w) = omega arith in
+          let d = all-below (e - w) (λ k. isDigit (getD t (w + k) 0)) (and-right (leb (e - w) 9) _ q) in
+          fit (value t w (e - w)) (isNumber z l (value-decimal w (e - w) d))
 
   -- readings one after another
   next-next : {A B C : Type 0} (r : Read A) (f : A → ℕ → Read B) (g : B → ℕ → Read C) → next (next r f) g ≡ next r (λ a p. next (f a p) g)

@@ -17,9 +17,13 @@ owner-low : (at : ℕ) → at < 4096 → ownerOf at ≡ 0
 unfolding ownerOf
 owner-low at h = rw (lt-ltb at 4096 h)
 
+owner-high : (at k : ℕ) → 4096 + 4 * k ≤ at → at < 4096 + 4 * k + 4 → ownerOf at ≡ k + 1
+unfolding ownerOf
+owner-high at k h l = rw (le-ltb at 4096 (omega arith)) (omega arith)
+
 owner-kid : (k rest : ℕ) → ownerOf (kid k rest) ≡ k + 1
-unfolding ownerOf kid
-owner-kid k rest = rw (le-ltb (4096 + 4 * k + (rest % 2 * 2 + rest / 4294967296 % 2)) 4096 (omega arith)) (omega arith)
+unfolding kid
+owner-kid k rest = owner-high (kid k rest) k (omega arith) (omega arith)
 
 kid-low : (k rest : ℕ) → k < 2048 → kid k rest < 12288
 unfolding kid
