@@ -92,7 +92,7 @@ enum {
     KZ_NOT_NUMBERED = 21, /* a named dart has no number yet                     steps done */
     KZ_ITSELF = 22,       /* a named dart is the dart itself                    steps done */
     KZ_LINKED = 23,       /* a named dart has a link at this rank already       steps done */
-    /* 24 and 25 are no refusal's */
+    /* no call answers 24 or 25 */
     KZ_WORD = 26,         /* a word or number malformed or missing              its first byte, or the text's length */
     KZ_VERTEX = 27,       /* a vertex number too large                          the face's number, from 0 */
     KZ_FACE = 28,         /* under three corners, or two equal neighbours       the face's number, from 0 */

@@ -9,7 +9,7 @@
  *
  *   CALL N n MAP ratio R           the time of the library's call over the reference's
  *   faces 2 n TEXT ratio R         the same for a face file of n/2 corners; where n is above 4,096 it is refused by 2
- *   faces TEXT/spread G            the library's time for sides that fall into one slot over that for harmless ones
+ *   faces TEXT/spread G            the library's time for sides that fall into few slots over that for harmless ones
  *   cost CALL N MAP 4096/512 G     the library's cost of a step at n = 4,096 over that at 512, and the reference's
  *   longest ...                    the longest stream in pages of 64 bytes
  *
@@ -212,11 +212,19 @@ static void print_hostile(const char *name, double hostile, double spread)
     against(hostile / spread, most_hostile);
 }
 
-/* Tori; then 20,000 corners spread over a table's slots, and as many that fall into one. */
+/* Tori; then 20,000 corners spread over a table's slots, and as many that fall into one of a table by products or by
+   remainders; or into eight by remainders, and all their vertices have the two lowest bits in common. */
 static void bench_faces(void)
 {
     enum { VERTICES = 20000, FOLDED = 5000, CORNERS = 4 * FOLDED };
-    double spread, product, remainder;
+    static const struct hostile {
+        const char *name;
+        uint32_t each, slots, (*slot_of)(uint32_t, uint32_t);
+    } hostile[] = { { "slot-by-product", 1, 1, slot_by_product },
+                    { "slot-by-remainder", 1, 1, slot_by_remainder },
+                    { "slots-and-bits", 4, 8, slot_by_remainder } };
+    double spread;
+    size_t k;
     lend_grid_text(32, 16, 1);
     bench_text("torus", 4 * 32 * 16, KZ_ACCEPTED, most_accepted);
     lend_grid_text(100, 50, 1);
@@ -225,12 +233,10 @@ static void bench_faces(void)
     bench_text("torus", 4 * 125 * 100, KZ_DARTS, most_50000);
     lend_spread(VERTICES, FOLDED);
     spread = bench_text("spread", CORNERS, KZ_DARTS, no_target);
-    lend_one_slot(VERTICES, FOLDED, slot_by_product);
-    product = bench_text("slot-by-product", CORNERS, KZ_DARTS, no_target);
-    lend_one_slot(VERTICES, FOLDED, slot_by_remainder);
-    remainder = bench_text("slot-by-remainder", CORNERS, KZ_DARTS, no_target);
-    print_hostile("slot-by-product", product, spread);
-    print_hostile("slot-by-remainder", remainder, spread);
+    for (k = 0; k < sizeof hostile / sizeof hostile[0]; k++) {
+        lend_in_slots(VERTICES, FOLDED, hostile[k].each, hostile[k].slots, hostile[k].slot_of);
+        print_hostile(hostile[k].name, bench_text(hostile[k].name, CORNERS, KZ_DARTS, no_target), spread);
+    }
 }
 
 /* The longest stream. */

@@ -1,6 +1,6 @@
 /*
  * The face files of the comparisons, small ones at random, good and spoiled; and those of the benchmark whose sides all
- * fall into one slot of a table.
+ * fall into a few slots of a table.
  */
 #ifndef SURFACE_BENCH_FACES_H
 #define SURFACE_BENCH_FACES_H
@@ -178,9 +178,9 @@ static void write_mesh(int plain)
 /* A byte set, taken out or put in, or the end cut off. */
 static void spoil_text(void)
 {
-    static const char bytes[] = "0123456789 \t\r\n#xOF-.\v";
+    static const char bytes[] = "0123456789 \t\r\n#xOF-.\v\xFF"; /* and NUL */
     size_t at = dice((uint32_t)text_end), k;
-    uint8_t byte = (uint8_t)bytes[dice(sizeof bytes - 1)];
+    uint8_t byte = (uint8_t)bytes[dice(sizeof bytes)];
     switch (dice(8)) {
     case 0: text_end = at; break;
     case 1:
@@ -197,7 +197,7 @@ static void spoil_text(void)
     }
 }
 
-/* Sides in one slot. */
+/* Sides in few slots. */
 
 /* Two ways to put sides into a table: by products, and by the remainder of both vertices as one number. */
 static uint32_t slot_by_product(uint32_t low, uint32_t high)
@@ -217,14 +217,15 @@ static void put_folded(uint32_t vertex, uint32_t one, uint32_t other)
     put_face(4, square);
 }
 
-/* Folded squares whose sides all fall into slot 0. */
-static void lend_one_slot(uint32_t vertices, uint32_t faces, uint32_t (*slot_of)(uint32_t, uint32_t))
+/* Folded squares of each so many'th vertex whose sides all fall into the first slots. */
+static void lend_in_slots(uint32_t vertices, uint32_t faces, uint32_t each, uint32_t slots,
+                          uint32_t (*slot_of)(uint32_t, uint32_t))
 {
     uint32_t low, high, one;
     begin_text(vertices, faces);
-    for (low = 0; low < vertices; low++)
-        for (one = 0, high = low + 1; high < vertices && faces > 0; high++) {
-            if (slot_of(low, high) != 0)
+    for (low = 0; low < vertices; low += each)
+        for (one = 0, high = low + each; high < vertices && faces > 0; high += each) {
+            if (slot_of(low, high) >= slots)
                 continue;
             if (one > 0) {
                 put_folded(low, one, high);

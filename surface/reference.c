@@ -280,10 +280,23 @@ static struct fault first_not_reached(uint16_t *work, uint32_t darts)
     return fault;
 }
 
-/* Refusals 1 to 9; if there is none the work room holds the numbering and the stream is written. */
-static struct fault check_posting(const struct posting *p, struct stream *stream)
+/* Refusal 9 of a valid map; else the work room holds the numbering and the stream is written. */
+static struct fault number_darts(const struct map *map, uint32_t root, uint16_t *work, struct stream *stream)
 {
     static struct walk walk;
+    if (stream != NULL)
+        begin_stream(stream, map);
+    walk_map(map, root, work, stream, &walk);
+    if (walk.count < map->darts)
+        return first_not_reached(work, map->darts);
+    if (stream != NULL)
+        end_stream(stream);
+    return no_fault;
+}
+
+/* Refusals 1 to 9. */
+static struct fault check_posting(const struct posting *p, struct stream *stream)
+{
     struct fault fault = test_numbers(p->dim, p->darts, p->root, p->tables_length, p->work_length);
     if (fault.number != 0)
         return fault;
@@ -291,14 +304,7 @@ static struct fault check_posting(const struct posting *p, struct stream *stream
     fault = test_tables(&map);
     if (fault.number != 0)
         return fault;
-    if (stream != NULL)
-        begin_stream(stream, &map);
-    walk_map(&map, (uint32_t)p->root, p->work, stream, &walk);
-    if (walk.count < map.darts)
-        return first_not_reached(p->work, map.darts);
-    if (stream != NULL)
-        end_stream(stream);
-    return no_fault;
+    return number_darts(&map, (uint32_t)p->root, p->work, stream);
 }
 
 uint32_t ref_check(uint64_t dim, uint64_t darts, uint64_t root, const uint16_t *tables, size_t tables_length,
@@ -497,12 +503,13 @@ static void join_corner(const struct face_file *file, size_t corner, size_t next
     }
 }
 
-/* 2, 3 and 4; then the tables are written and checked from root 0. */
+/* 2, 3 and 4; then the tables are written, and the darts numbered from root 0. A map so made is valid, so 6 to 8 are not
+   looked for, as a plain reader of such files would not. */
 static struct fault post_faces(const struct face_file *file, uint16_t *tables, size_t tables_length, uint16_t *work,
                                size_t work_length)
 {
-    struct posting posting = { 2, 2 * (uint64_t)file->count, 0, tables, tables_length, work, work_length };
-    struct fault fault = test_numbers(2, posting.darts, 0, tables_length, work_length);
+    struct map map = { 2, 2 * (uint32_t)file->count, tables };
+    struct fault fault = test_numbers(2, 2 * (uint64_t)file->count, 0, tables_length, work_length);
     size_t first = 0;
     if (fault.number != 0)
         return fault;
@@ -511,7 +518,7 @@ static struct fault post_faces(const struct face_file *file, uint16_t *tables, s
             join_corner(file, first + k, k + 1 < file->sizes[f] ? first + k + 1 : first, tables);
         first += file->sizes[f];
     }
-    return check_posting(&posting, NULL);
+    return number_darts(&map, 0, work, NULL);
 }
 
 uint32_t ref_faces(const uint8_t *bytes, size_t bytes_length, uint16_t *tables, size_t tables_length, uint16_t *work,
