@@ -107,7 +107,7 @@ start-next (f ∷ fs) zero h = omega (arith, start-suc f fs 0, start-zero fs, st
 start-next (f ∷ fs) (suc k) h = omega (arith, start-suc f fs k, start-suc f fs (suc k), start-next fs k (omega arith))
 
 -- within all corners
-start-within : (fs : List (List ℕ)) (k : ℕ) → startOf fs k ≤ length (allCorners 0 fs)
+pub start-within : (fs : List (List ℕ)) (k : ℕ) → startOf fs k ≤ length (allCorners 0 fs)
 unfolding startOf
 start-within fs zero = omega (arith, start-zero fs)
 start-within [] (suc k) = omega arith

@@ -10,17 +10,21 @@ use native.Mathlib.Decide.{ℕ-discrete, decLt, decLe}
 use lib.ListN.{length, getD}
 use lib.Dec.{ltb}
 use borrow.Author.Tests.{lt-leb, lt-ltb, le-ltb}
+use Rattle.rules.specs.Lists.{listOf}
 use Rattle.rules.specs.Map.{Layout, size, link, Reached, allRanks, allBut, Valid, Limits}
 use Rattle.rules.specs.Check.{Verdict, verdict}
+use Rattle.rules.specs.Report.{cells}
 use Rattle.shapes.specs.Text.{Read, bad, good, File, file}
 use Rattle.shapes.specs.Faces.{Corner, allCorners, cornerAt, some, poor, facesVerdict, dartsOf, vertexOf, cornerBefore, cornerAfter, twin}
 use Rattle.shapes.specs.Faces.{linkFrom, mapOn, readVerdict}
 use Rattle.rules.proofs.Firsts.{Least, first-refuted}
 use Rattle.rules.proofs.Pairs.{pair-breaks}
 use Rattle.rules.proofs.Orbits.{Closed, valid-closed, reached-trans, reached-below, reached-sym}
+use Rattle.rules.proofs.Lists.{length-listOf, getD-listOf}
+use Rattle.rules.proofs.Cells.{Representatives, cells-unique}
 use Rattle.rules.proofs.Check.{Case, Passes, refused-case, case-refused, fine-passes, passes-fine}
-use Rattle.shapes.proofs.Corners.{startOf, start-next, Of, of-known, of-first, of-end, own-at, far-at, far-last, framed, own-far, after-last}
-use Rattle.shapes.proofs.Corners.{after-other, next-first, first-first, after-below, before-below, before-after, after-before, far-next}
+use Rattle.shapes.proofs.Corners.{startOf, start-next, start-within, Of, of-known, of-some, of-first, of-end, own-at, far-at, far-last, framed}
+use Rattle.shapes.proofs.Corners.{some-none, face-three, own-far, after-last, after-other, next-first, first-first, after-below, before-below, before-after, after-before, far-next}
 use Rattle.shapes.proofs.Built.{Twice, by-ends, vertex-own, vertex-far, zero-own, zero-far, one-own, one-far, free-own, free-far, Joined, joined}
 use Rattle.shapes.proofs.Built.{twin-other, twin-alike, twin-only, two-vertex, built-length, built-link, built-valid}
 use Rattle.shapes.proofs.FaceCases.{SameTwo, alike-same, same-alike, FaceCase, case-number, Earlier, FacesDecided}
@@ -535,6 +539,43 @@ module _ (Y : Layout) (fs : List (List ℕ)) (t : List ℕ) (rich : some poor fs
 
   pub of-cell : (d e k : ℕ) → d < n → e < n → Of fs k (d / 2) → Of fs k (e / 2) → Reached Y (allBut 2) 2 n u d e
   of-cell d e k hd he o o' = face-cell d e hd he (of-first fs k (d / 2) o ∙ sym (of-first fs k (e / 2) o'))
+
+  -- and the report counts as many as there are faces: the own dart of each face's first corner is one of each 2-cell
+  first-corner : (k : ℕ) → k < length fs → Of fs k (2 * startOf fs k / 2)
+  first-corner k h =
+      let l = face-three (getD fs k []) (some-none poor fs rich k [] h) in
+      record { from = omega arith; upTo = omega (arith, start-next fs k h) }
+
+  first-below : (k : ℕ) → k < length fs → 2 * startOf fs k < n
+  unfolding dartsOf
+  first-below k h = omega (arith, first-corner k h .upTo, start-within fs (suc k))
+
+  abbrev pub firstDarts : List ℕ
+  firstDarts = listOf (length fs) (λ k. 2 * startOf fs k)
+
+  pub faces-picked : Representatives Y 2 n u 2 firstDarts
+  unfolding dartsOf
+  faces-picked = record {
+    member = λ k h. rw (is k (long h)) (first-below k (long h));
+    all = λ d h. let (k, o) = of-some fs (d / 2) (corner d h) in let l = of-known fs k (d / 2) o in
+        (k, rw (length-listOf (length fs) (λ k. 2 * startOf fs k)) l, rw (is k l) (of-cell (2 * startOf fs k) d k (first-below k l) h (first-corner k l) o));
+    once = λ j k h l r.
+        let x = long h in
+        let y = long l in
+        cell-of (2 * startOf fs j) (2 * startOf fs k) j k (first-below j x) (first-corner j x) (first-corner k y) (rw (is j x, is k y) at r);
+  }
+    where
+      long : {k : ℕ} → k < length firstDarts → k < length fs
+      long h = omega (arith, length-listOf (length fs) (λ k. 2 * startOf fs k))
+
+      is : (k : ℕ) → k < length fs → getD firstDarts k 0 ≡ 2 * startOf fs k
+      is k h = getD-listOf (length fs) (λ k. 2 * startOf fs k) k 0 h
+
+      corner : (d : ℕ) → d < n → d / 2 < length cs
+      corner d h = omega arith
+
+  pub faces-counted : cells Y 2 n u 2 ≡ length fs
+  faces-counted = sym (cells-unique closed 2 firstDarts faces-picked) ∙ length-listOf (length fs) (λ k. 2 * startOf fs k)
 
   -- a2 of a corner's darts: without a twin, and with one
   two-free : (c : ℕ) → length cs ≤ twin cs c → (d : ℕ) → d < 2 * length cs → d / 2 ≡ c → linkFrom cs 2 d ≡ d
