@@ -503,7 +503,7 @@ static void join_corner(const struct face_file *file, size_t corner, size_t next
     }
 }
 
-/* 2, 3 and 4; then the tables are written, and the darts numbered from root 0. A map so made is valid, so 6 to 8 are not
+/* 2, 3 and 4; then the tables are written, and the darts numbered from root 0. A map so made is valid: 6 to 8 are not
    looked for, as a plain reader of such files would not. */
 static struct fault post_faces(const struct face_file *file, uint16_t *tables, size_t tables_length, uint16_t *work,
                                size_t work_length)

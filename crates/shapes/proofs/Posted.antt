@@ -24,7 +24,8 @@ use Rattle.rules.proofs.Lists.{length-listOf, getD-listOf}
 use Rattle.rules.proofs.Cells.{Representatives, cells-unique}
 use Rattle.rules.proofs.Check.{Case, Passes, refused-case, case-refused, fine-passes, passes-fine}
 use Rattle.shapes.proofs.Corners.{startOf, start-next, start-within, Of, of-known, of-some, of-first, of-end, own-at, far-at, far-last, framed}
-use Rattle.shapes.proofs.Corners.{some-none, face-three, own-far, after-last, after-other, next-first, first-first, after-below, before-below, before-after, after-before, far-next}
+use Rattle.shapes.proofs.Corners.{some-none, face-three, own-far, after-last, after-other}
+use Rattle.shapes.proofs.Corners.{next-first, first-first, after-below, before-below, before-after, after-before, far-next}
 use Rattle.shapes.proofs.Built.{Twice, by-ends, vertex-own, vertex-far, zero-own, zero-far, one-own, one-far, free-own, free-far, Joined, joined}
 use Rattle.shapes.proofs.Built.{twin-other, twin-alike, twin-only, two-vertex, built-length, built-link, built-valid}
 use Rattle.shapes.proofs.FaceCases.{SameTwo, alike-same, same-alike, FaceCase, case-number, Earlier, FacesDecided}
