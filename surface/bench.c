@@ -219,7 +219,8 @@ static void bench_faces(void)
     enum { VERTICES = 20000, FOLDED = 5000, CORNERS = 4 * FOLDED };
     static const struct hostile {
         const char *name;
-        uint32_t each, slots, (*slot_of)(uint32_t, uint32_t);
+        uint32_t each, slots;
+        uint32_t (*slot_of)(uint32_t, uint32_t);
     } hostile[] = { { "slot-by-product", 1, 1, slot_by_product },
                     { "slot-by-remainder", 1, 1, slot_by_remainder },
                     { "slots-and-bits", 4, 8, slot_by_remainder } };

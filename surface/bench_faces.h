@@ -217,7 +217,7 @@ static void put_folded(uint32_t vertex, uint32_t one, uint32_t other)
     put_face(4, square);
 }
 
-/* Folded squares of each so many'th vertex whose sides all fall into the first slots. */
+/* Folded squares whose vertices are multiples of `each`, and whose sides all fall into the first slots. */
 static void lend_in_slots(uint32_t vertices, uint32_t faces, uint32_t each, uint32_t slots,
                           uint32_t (*slot_of)(uint32_t, uint32_t))
 {

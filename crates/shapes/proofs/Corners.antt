@@ -96,7 +96,7 @@ pub start-zero : (fs : List (List ℕ)) → startOf fs 0 ≡ 0
 unfolding startOf allCorners
 start-zero fs = refl
 
-pub start-suc : (f : List ℕ) (fs : List (List ℕ)) (k : ℕ) → startOf (f ∷ fs) (suc k) ≡ length f + startOf fs k
+start-suc : (f : List ℕ) (fs : List (List ℕ)) (k : ℕ) → startOf (f ∷ fs) (suc k) ≡ length f + startOf fs k
 unfolding startOf
 start-suc f fs k = length-all 0 f (take k fs) ∙ ap (λ (n : ℕ). length f + n) (length-from (0 + length f) (take k fs))
 
@@ -150,7 +150,7 @@ corner-from b (f ∷ fs) (suc k) j h l =
     let y : b + (length f + startOf fs k) ≡ b + length f + startOf fs k = omega arith in
     rw (start-suc f fs k, x, y) (corner-later b f fs (startOf fs k + j) ∙ corner-from (b + length f) fs k j (omega arith) l)
 
-pub corner-of : (fs : List (List ℕ)) (k j : ℕ) → k < length fs → j < length (getD fs k [])
+corner-of : (fs : List (List ℕ)) (k j : ℕ) → k < length fs → j < length (getD fs k [])
     → cornerAt (allCorners 0 fs) (startOf fs k + j) ≡ cornerOf (startOf fs k) (getD fs k []) j
 corner-of fs k j h l = let x : 0 + startOf fs k ≡ startOf fs k = omega arith in rw x at (corner-from 0 fs k j h l)
 

@@ -1,6 +1,6 @@
 -- What was in the rooms before is not read: the answer depends on the text and on the rooms' lengths alone, what is written depends on the text alone, and what
--- is past the map's entries stays. All refusals but 9 change nothing; after 0 and 9 the rooms are the check's. Rests on Built, FaceCases, Posted and the rules'
--- Past.
+-- is past the map's entries stays. When n is told; all refusals but 9 change nothing; after 0 and 9 the rooms are the check's. Rests on Built, FaceCases,
+-- Posted and the rules' Past.
 use Prim.Native.Nat.{ℕ, _≤_, _<_}
 use mathlib.Core.Path.{_≡_, refl, ap, sym, _∙_}
 use mathlib.Core.Logic.{_≢_, _⊎_, inl, inr}
@@ -24,7 +24,7 @@ use Rattle.shapes.specs.Faces.{Corner, allCorners, facesVerdict, dartsOf
 use Rattle.shapes.specs.Faces.{refusal, facesAnswer, facesTables, facesWork}
 use Rattle.shapes.proofs.Built.{built-is, laid-long}
 use Rattle.shapes.proofs.FaceCases.{FacesDecided, faces-decided, case-number}
-use Rattle.shapes.proofs.Posted.{on-length, cornersIn, dartsIn, tablesIn}
+use Rattle.shapes.proofs.Posted.{on-length, cornersIn, dartsIn, tablesIn, post-case, post-number}
 
 -- a verdict is told by the check's answer
 told : (v w : Verdict) → ((nr p : ℕ) → v ≡ Verdict.refused nr p → nr ≢ 0) → ((nr p : ℕ) → w ≡ Verdict.refused nr p → nr ≢ 0)
@@ -137,6 +137,30 @@ past-stays Y text t work = go (readVerdict Y (file text) t (length work))
         nine : (b : Bool) → drop (size 2 (dartsOf cs)) (cond b (mapOn Y cs t) t) ≡ drop (size 2 (dartsOf cs)) t
         nine true = on
         nine false = refl
+
+-- n is told of an accepted file, and 0 on every refusal
+pub told-darts : (Y : Layout) (text t work : List ℕ) (m : File) (p : ℕ) → file text ≡ good m p → facesAnswer Y text t work .number ≡ 0
+    → facesAnswer Y text t work .darts ≡ dartsIn m
+unfolding facesAnswer facesAnswerOf refusal cornersOf
+told-darts Y text t work m p e z = go (readVerdict Y (file text) t (length work)) refl z ∙ rw e
+  where
+    go : (v : Verdict) → readVerdict Y (file text) t (length work) ≡ v → facesAnswerOf (dartsOf (cornersOf (file text))) v .number ≡ 0
+        → facesAnswerOf (dartsOf (cornersOf (file text))) v .darts ≡ dartsOf (cornersOf (file text))
+    go Verdict.fine q z = refl
+    go (Verdict.refused nr r) q z = absurd (far (post-number Y text t (length work) (post-case Y text t (length work) nr r q .0)))
+      where
+        far : ((26 ≤ nr) × (nr ≤ 29)) ⊎ (((2 ≤ nr) × (nr ≤ 4)) ⊎ (nr ≡ 9)) → ⊥
+        far (inl (a, b)) = omega arith
+        far (inr (inl (a, b))) = omega arith
+        far (inr (inr a)) = omega arith
+
+pub untold-darts : (Y : Layout) (text t work : List ℕ) → facesAnswer Y text t work .number ≢ 0 → facesAnswer Y text t work .darts ≡ 0
+unfolding facesAnswer facesAnswerOf refusal
+untold-darts Y text t work = go (readVerdict Y (file text) t (length work))
+  where
+    go : (v : Verdict) → facesAnswerOf (dartsOf (cornersOf (file text))) v .number ≢ 0 → facesAnswerOf (dartsOf (cornersOf (file text))) v .darts ≡ 0
+    go Verdict.fine n = absurd (n refl)
+    go (Verdict.refused nr r) n = refl
 
 -- all refusals but 9 change nothing
 pub others-leave : (Y : Layout) (text t work : List ℕ) → facesAnswer Y text t work .number ≢ 0 → facesAnswer Y text t work .number ≢ 9

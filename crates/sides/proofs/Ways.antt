@@ -11,8 +11,8 @@ use lib.ListN.{length, getD, set}
 use lib.Seq.{getD-set-same, getD-set-other}
 use borrow.Author.Tests.{lt-ltb, le-ltb}
 use Rattle.corners.specs.declared.Position.{Position}
-use Rattle.corners.specs.Steps.{stepAt, positionAfter}
-use Rattle.corners.proofs.Steps.{Small, small-step, small-after}
+use Rattle.corners.specs.Steps.{begun, stepAt, positionAfter}
+use Rattle.corners.proofs.Steps.{Small, small-begun, small-step, small-after}
 use Rattle.sides.specs.declared.Spot.{Spot}
 use Rattle.sides.specs.declared.Spot.the-variants.{Free}
 use Rattle.sides.specs.Sides.{keyOf, keyAt, kid, ownerOf, Grown, Path, free, found, onward, Way, begins, goes, Sown, Swept}
@@ -34,7 +34,7 @@ path-way tree keys key w (onward k e n p) = path-way tree keys key (goes k w e) 
 pub sown-none : (tree keys : List ℕ) → ((at : ℕ) → getD tree at 0 ≡ 0) → Sown tree keys
 sown-none tree keys z = record { once = λ a b k e. absurd (omega (arith, z a)); comes = λ a k e. absurd (omega (arith, z a)) }
 
--- another corner's key
+-- the key of a corner that is not in the tree
 pub sown-key : (tree keys : List ℕ) (i key : ℕ) → Grown tree i → Sown tree keys → Sown tree (set keys i key)
 sown-key tree keys i key g s = record {
   once = s .once;
@@ -105,6 +105,7 @@ unfolding halved
 high-left zero key = refl
 high-left (suc i) key = omega (arith, high-left i key)
 
+-- a number with n bits 0 after it
 unfoldable lifted : ℕ → ℕ → ℕ
 lifted zero x = x
 lifted (suc n) x = 2 * lifted n x
@@ -189,7 +190,7 @@ search-short tree keys twins kf m j w n key h r p =
     known : (at k : ℕ) → getD tree at 0 ≡ suc k → Narrow (getD keys k 0)
     known at k e = let l : k < m = omega (arith, w .grown .below at) in rw (w .keyed k l) (n k l)
 
--- of the corners of a text too: their vertex numbers have nine digits at most
+-- the keys of a text's corners are narrow, since a number has nine digits at most
 key-narrow : (u v : ℕ) → u < 1000000000 → v < 1000000000 → Narrow (keyOf u v)
 unfolding keyOf
 key-narrow u v h l = go (decLt v u)
@@ -202,7 +203,13 @@ text-narrow : (t : List ℕ) (c : Position) → Small c → (x : ℕ) → Narrow
 unfolding keyAt stepAt
 text-narrow t c s x = let (h, l, n) = small-step t (positionAfter t x c) (small-after t x c s) in key-narrow _ _ h l
 
-pub text-short : (t : List ℕ) (c : Position) → Small c → (tree keys twins : List ℕ) (m j : ℕ) → Swept tree keys twins (keyAt t c) m j → (x : ℕ) (r : Spot)
-    (p : Path tree keys (keyAt t c x) (keyAt t c x) (keyAt t c x % 4093) r) → looked p ≤ 31
-text-short t c s tree keys twins m j w x r p =
-    search-short tree keys twins (keyAt t c) m j w (λ y h. text-narrow t c s y) (keyAt t c x) (text-narrow t c s x) r p
+-- so it is for the blocks of every text: in a table of corners from the d-th of the text on, the search for the side of each corner from there on is short
+pub text-short : (t : List ℕ) (start d : ℕ) → let c = positionAfter t d (begun start) in (tree keys twins : List ℕ) (m j : ℕ)
+    → Swept tree keys twins (keyAt t c) m j → (x : ℕ) (r : Spot) (p : Path tree keys (keyAt t c x) (keyAt t c x) (keyAt t c x % 4093) r) → looked p ≤ 31
+text-short t start d tree keys twins m j w x r p = search-short tree keys twins (keyAt t c) m j w (λ y h. narrow y) (keyAt t c x) (narrow x) r p
+  where
+    c : Position
+    c = positionAfter t d (begun start)
+
+    narrow : (y : ℕ) → Narrow (keyAt t c y)
+    narrow = text-narrow t c (small-after t d (begun start) (small-begun start))
