@@ -2,18 +2,22 @@
 -- writer and reader do the same whatever room the reader is lent, and whatever the layout. Rests on Layouts and Names.
 use Prim.Native.Nat.{ℕ, zero, suc, _+_, _-_, _≤_, _<_}
 use mathlib.Core.Path.{_≡_, refl, ap, sym, _∙_}
-use mathlib.Core.Bool.{true}
+use mathlib.Core.Bool.{Bool, true, false, _&&_, cond}
 use mathlib.Core.List.{List, [], _∷_, _++_, append-nil}
 use native.Mathlib.Omega.{arith}
 use lib.ListN.{length, getD, set, replicate, drop, length-set, length-append, drop-of-length-le}
 use lib.Seq.{set-append-left}
-use lib.Dec.{eqb}
+use lib.Dec.{eqb, ltb}
 use borrow.Author.Tests.{ltb-true}
+use Rattle.rules.specs.declared.Form.{Form}
 use Rattle.rules.specs.Lists.{number}
+use Rattle.rules.specs.Bodies.{several}
 use Rattle.rules.specs.Map.{Layout, mark, size, place, link, blank, Valid}
 use Rattle.rules.specs.Reading.{permitted}
-use Rattle.rules.specs.Walk.{Walk, start, Head, head, linkOf, unknown, Partner, deduce, partner, pass, join, fresh, tie, Symbol, apply, enough}
-use Rattle.rules.specs.Walk.{Written, symbolOf, named, writeSymbol, writeWith, writeAt, writeStep, prepend, writeOn, write, walked}
+use Rattle.rules.specs.Walk.{Walk, start, Head, head, linkOf, unknown, Partner, deduce, partner, pass, join, fresh, isNone, due, oneMore, resume, tie, Symbol, apply, enough}
+use Rattle.rules.specs.Walk.{Written, symbolOf, named, writeSymbol, writeWith, writeAt, resumeNames, resumed, writeStep, prepend, Walked, writeOn, write, walked, symbolsOf}
+use Rattle.rules.specs.Stream.{codes, header, filled}
+use Rattle.rules.specs.Writing.{stream}
 use Rattle.rules.specs.Exchange.{exchanged}
 use Rattle.rules.proofs.Places.{place-below, link-past, blank-room, blank-past}
 use Rattle.rules.proofs.Layouts.{length-exchanged, link-exchanged, set-exchanged, blank-exchanged}
@@ -52,7 +56,17 @@ exchange-casts Y Z N n = record {
 
 -- a walk with its tables held so
 unfoldable pub cast : Layout → (List ℕ → List ℕ) → Walk → Walk
-cast Z f w = record { layout = Z; dim = w .dim; darts = w .darts; queues = w .queues; links = f (w .links); count = w .count; positions = w .positions }
+cast Z f w = record {
+  layout = Z;
+  dim = w .dim;
+  darts = w .darts;
+  queues = w .queues;
+  links = f (w .links);
+  count = w .count;
+  positions = w .positions;
+  form = w .form;
+  bodies = w .bodies;
+}
 
 -- the tables of a walk w go by f to layout Z
 abbrev pub CastsOf : Walk → Layout → (List ℕ → List ℕ) → Type 0
@@ -114,6 +128,22 @@ unfoldable pub castStep : Layout → (List ℕ → List ℕ) → Written → Wri
 castStep Z f Written.finished = Written.finished
 castStep Z f (Written.wrote out w names) = Written.wrote out (cast Z f w) names
 
+-- a body is begun alike
+pub resume-cast : (Z : Layout) (f : List ℕ → List ℕ) (w : Walk) → resume (cast Z f w) ≡ cast Z f (resume w)
+unfolding resume due cast
+resume-cast Z f w = go (isNone (head w) && ltb (w .count) (w .darts) && several (w .form))
+  where
+    go : (t : Bool) → cond t (oneMore (fresh (cast Z f w))) (cast Z f w) ≡ cast Z f (cond t (oneMore (fresh w)) w)
+    go true = unfold oneMore fresh in refl
+    go false = refl
+
+resumed-cast : (Z : Layout) (f : List ℕ → List ℕ) (s : Written) → resumed (castStep Z f s) ≡ castStep Z f (resumed s)
+unfolding castStep resumed
+resumed-cast Z f Written.finished = refl
+resumed-cast Z f (Written.wrote out w names) =
+    ap (λ (x : Walk). Written.wrote out x (resumeNames (cast Z f w) names)) (resume-cast Z f w)
+    ∙ ap (λ (x : List ℕ). Written.wrote out (cast Z f (resume w)) x) (unfold resumeNames due cast in refl)
+
 -- a move that writes s permits s
 move-permits : (w w' : Walk) (j b : ℕ) (s : Symbol) (out : List Symbol) → head w ≡ Head.at j b → Move w out w' → out ≡ s ∷ [] → permitted w j b s ≡ true
 move-permits w w' j b s out h (Move.passes j' b' h' p) e = let z : _≡_ {A = ℕ} 0 1 = cc in absurd (omega arith)
@@ -138,17 +168,17 @@ module _ {Z : Layout} {f : List ℕ → List ℕ} (m m' : List ℕ) (root : ℕ)
       symbolOf (eqb y (getD names b mark)) (eqb (number names y) (length names)) (number names y)
 
   permits : (j b : ℕ) → head w ≡ Head.at j b → partner w j b ≡ Partner.asked → permitted w j b (writes j b) ≡ true
-  unfolding writes writeStep writeAt writeWith writeSymbol
+  unfolding writes writeStep resumed writeAt writeWith writeSymbol
   permits j b h p =
       let k = write-move m root w names v M A j b h in
       let y = link (w .layout) (w .dim) (w .darts) m j (getD names b mark) in
-      let q : writeStep m w names ≡ Written.wrote (writes j b ∷ []) (apply w j b (writes j b)) (named (writes j b) names y) = rw (h, p) in
+      let q : writeStep m w names ≡ resumed (Written.wrote (writes j b ∷ []) (apply w j b (writes j b)) (named (writes j b) names y)) = rw (h, p) in
       let o : k .out ≡ writes j b ∷ [] = cc (k .eq) in
       move-permits w (k .walk) j b (writes j b) (k .out) h (k .move) o
 
   step-cast : writeStep m' (cast Z f w) names ≡ castStep Z f (writeStep m w names)
   unfolding writeStep cast writes
-  step-cast = go (head w) refl
+  step-cast = ap resumed (go (head w) refl) ∙ resumed-cast Z f (writeAt m w names (head w))
     where
       with' : (j b : ℕ) → head w ≡ Head.at j b → (p : Partner) → partner w j b ≡ p
           → writeWith (cast Z f w) names j b (getD names b mark) (link (w .layout) (w .dim) (w .darts) m j (getD names b mark)) p
@@ -178,7 +208,7 @@ write-cast {Z} {f} (suc k) m m' root w names C E v M A =
         → (h : Head) → head w ≡ h
         → writeOn (λ w' names'. write k m' w' names') names (castStep Z f (writeStep m w names))
         ≡ writeOn (λ w' names'. write k m w' names') names (writeStep m w names)
-    go rec Head.none h = unfold writeStep writeAt writeOn castStep in rw h
+    go rec Head.none h = unfold writeStep resumed writeAt writeOn castStep in rw h
     go rec (Head.at j b) h =
         let y = write-move m root w names v M A j b h in
         let g = moved w (y .walk) (y .out) v (y .move) in
@@ -186,24 +216,24 @@ write-cast {Z} {f} (suc k) m m' root w names C E v M A =
         let E' : LinksOf (y .walk) Z m m' = rw (g .grows .layout, g .grows .dim, g .grows .darts) E in
         rw (y .eq) (unfold writeOn castStep in ap (prepend (y .out)) (rec (y .walk) (y .names') (casts-on (g .grows) C) E' (g .inv) (y .keeps) A'))
 
-start-behind : (Y : Layout) (N n : ℕ) (t : List ℕ) → start Y N n t ≡ cast Y (λ l. l ++ drop (size N n) t) (start Y N n [])
+start-behind : (F : Form) (Y : Layout) (N n : ℕ) (t : List ℕ) → start F Y N n t ≡ cast Y (λ l. l ++ drop (size N n) t) (start F Y N n [])
 unfolding start cast blank
-start-behind Y N n t = let none : List ℕ = [] in
+start-behind F Y N n t = let none : List ℕ = [] in
     let e : drop (size N n) none ≡ none = drop-of-length-le none {i = size N n} (omega arith) in rw (e, append-nil)
 
 -- from any lent tables the same is written
-pub write-start : (Y : Layout) (N n : ℕ) (t m : List ℕ) (root : ℕ) → N ≤ 6 → n ≤ 4096 → root < n → Valid Y N n m
-    → write (enough N n) m (start Y N n t) (root ∷ []) ≡ walked Y N n m root
+pub write-start : (F : Form) (Y : Layout) (N n : ℕ) (t m : List ℕ) (root : ℕ) → N ≤ 6 → n ≤ 4096 → root < n → Valid Y N n m
+    → write (enough N n) m (start F Y N n t) (root ∷ []) ≡ walked F Y N n m root
 unfolding walked
-write-start Y N n t m root h6 hn hr A =
-    rw (start-behind Y N n t)
-    (write-cast (enough N n) m m root (start Y N n []) (root ∷ []) (unfold start in behind-casts Y N n (drop (size N n) t)) (unfold start in λ i d hi. refl)
-    (start-inv Y N n [] (omega arith) hn h6) (start-names Y N n [] m root hr) (unfold start in A))
+write-start F Y N n t m root h6 hn hr A =
+    rw (start-behind F Y N n t)
+    (write-cast (enough N n) m m root (start F Y N n []) (root ∷ []) (unfold start in behind-casts Y N n (drop (size N n) t)) (unfold start in λ i d hi. refl)
+    (start-inv F Y N n [] (omega arith) hn h6) (start-names F Y N n [] m root hr) (unfold start in A))
 
-start-exchanged : (Y Z : Layout) (N n : ℕ)
-    → start Z N n (exchanged Y Z N n (blank (size N n) [])) ≡ cast Z (exchanged Y Z N n) (start Y N n (blank (size N n) []))
+start-exchanged : (F : Form) (Y Z : Layout) (N n : ℕ)
+    → start F Z N n (exchanged Y Z N n (blank (size N n) [])) ≡ cast Z (exchanged Y Z N n) (start F Y N n (blank (size N n) []))
 unfolding start cast
-start-exchanged Y Z N n =
+start-exchanged F Y Z N n =
     let l = blank-room (size N n) [] in
     λ i. record {
       layout = Z;
@@ -213,17 +243,25 @@ start-exchanged Y Z N n =
       links = sym (blank-exchanged Y Z N n (blank (size N n) []) l) i;
       count = 1;
       positions = replicate 7 0;
+      form = F;
+      bodies = 1;
     }
 
 -- over equal links it is the same walk, in either layout
-pub walk-links : {Y Z : Layout} {N n : ℕ} {m m' : List ℕ} → SameLinks Y Z N n m m' → N ≤ 6 → n ≤ 4096 → {root : ℕ} → root < n → Valid Y N n m
-    → walked Z N n m' root ≡ walked Y N n m root
-walk-links {Y} {Z} {N} {n} {m} {m'} S h6 hn {root} hr A =
-    sym (write-start Z N n (exchanged Y Z N n t) m' root h6 hn hr (valid-to S A))
-    ∙ (rw (start-exchanged Y Z N n)
-    (write-cast (enough N n) m m' root (start Y N n t) (root ∷ []) (unfold start in exchange-casts Y Z N n)
-    (unfold start in λ i d hi. sym (links-same S i d hi)) (start-inv Y N n t (omega arith) hn h6) (start-names Y N n t m root hr) (unfold start in A))
-    ∙ write-start Y N n t m root h6 hn hr A)
+pub walk-links : (F : Form) {Y Z : Layout} {N n : ℕ} {m m' : List ℕ} → SameLinks Y Z N n m m' → N ≤ 6 → n ≤ 4096 → {root : ℕ} → root < n → Valid Y N n m
+    → walked F Z N n m' root ≡ walked F Y N n m root
+walk-links F {Y} {Z} {N} {n} {m} {m'} S h6 hn {root} hr A =
+    sym (write-start F Z N n (exchanged Y Z N n t) m' root h6 hn hr (valid-to S A))
+    ∙ (rw (start-exchanged F Y Z N n)
+    (write-cast (enough N n) m m' root (start F Y N n t) (root ∷ []) (unfold start in exchange-casts Y Z N n)
+    (unfold start in λ i d hi. sym (links-same S i d hi)) (start-inv F Y N n t (omega arith) hn h6) (start-names F Y N n t m root hr) (unfold start in A))
+    ∙ write-start F Y N n t m root h6 hn hr A)
   where
     t : List ℕ
     t = blank (size N n) []
+
+-- so the stream is the same
+pub stream-links : (F : Form) {Y Z : Layout} {N n : ℕ} {m m' : List ℕ} → SameLinks Y Z N n m m' → N ≤ 6 → n ≤ 4096 → {root : ℕ} → root < n → Valid Y N n m
+    → stream F Z N n m' root ≡ stream F Y N n m root
+unfolding stream symbolsOf
+stream-links F {N = N} {n} S h6 hn hr A = ap (λ (r : Walked). filled (header F N n ++ codes (r .symbols))) (walk-links F S h6 hn hr A)

@@ -11,17 +11,18 @@ use lib.Dec.{eqb, ltb, leb}
 use borrow.Author.Tests.{leb-true, leb-false, eqb-true, eqb-false, le-leb, lt-leb, le-ltb, lt-ltb, eq-eqb, ne-eqb, not-true}
 use Rattle.rules.specs.declared.Naming.{Naming}
 use Rattle.rules.specs.declared.Naming.the-variants.{Allowed, Unnumbered, Itself, Linked}
+use Rattle.rules.specs.declared.Form.the-variants.{One}
 use Rattle.rules.specs.Map.{mark}
-use Rattle.rules.specs.Walk.{Walk, Head, head, linkOf, unknown, Partner, partner, tie, Symbol, apply}
+use Rattle.rules.specs.Walk.{Walk, Head, head, linkOf, unknown, Partner, partner, tie, resume, Symbol, apply}
 use Rattle.rules.specs.Naming.{naming, namingNumber}
 use Rattle.rules.specs.Refusals.{among, ofIndex}
 use Rattle.rules.specs.Stream.{Taken, takeSymbol}
-use Rattle.rules.specs.Reading.{Run, Step, permitted, fault, allow, stepTaken, stepWith, stepAt, step, onward, run}
+use Rattle.rules.specs.Reading.{Run, Step, permitted, fault, allow, stepTaken, stepWith, stepAt, resuming, step, onward, run}
 use Rattle.rules.specs.Inner.{Inv}
 use Rattle.rules.proofs.Places.{link-none}
 use Rattle.rules.proofs.Links.{next-below}
 use Rattle.rules.proofs.Walks.{unknown-true, unknown-false, next-of}
-use Rattle.rules.proofs.Moves.{Named, named-index, index-named, see-asked, allow-goes}
+use Rattle.rules.proofs.Moves.{Named, named-index, index-named, see-asked, allow-goes, resuming-goes, resuming-stops, step-move, move-form, one-step}
 
 -- what each says of a w that names e at the head b of Lj
 unfoldable pub Says : Naming → Walk → ℕ → ℕ → ℕ → Type 0
@@ -111,13 +112,13 @@ pub record Told (w : Walk) (bs : List Bool) (j b e : ℕ) (rest : List Bool) : T
   pub unnumbered : (step w bs ≡ refusedBy 21 w → w .count ≤ e) × (w .count ≤ e → step w bs ≡ refusedBy 21 w)
   pub itself : (step w bs ≡ refusedBy 22 w → e ≡ b) × (e ≡ b → step w bs ≡ refusedBy 22 w)
   pub linked : (step w bs ≡ refusedBy 23 w → linkOf w j e ≢ mark) × (linkOf w j e ≢ mark → step w bs ≡ refusedBy 23 w)
-  pub allowed : (step w bs ≡ Step.goes (apply w j b (Symbol.index e)) rest → Named w j b e)
-      × (Named w j b e → step w bs ≡ Step.goes (apply w j b (Symbol.index e)) rest)
+  pub allowed : (step w bs ≡ Step.goes (resume (apply w j b (Symbol.index e))) rest → Named w j b e)
+      × (Named w j b e → step w bs ≡ Step.goes (resume (apply w j b (Symbol.index e))) rest)
 
 -- document 02's sentence, for every step that asks for a symbol and finds a w
 module _ (w : Walk) (v : Inv w) (bs : List Bool) (j b e : ℕ) (rest : List Bool) where
   pub told-apart : head w ≡ Head.at j b → partner w j b ≡ Partner.asked → takeSymbol bs ≡ Taken.symbol (Symbol.index e) rest → Told w bs j b e rest
-  unfolding namingNumber ofIndex among Says
+  unfolding namingNumber ofIndex among Says resuming
   told-apart h a q = record {
     unnumbered = (from 21, λ s. to Unnumbered s refl);
     itself = (from 22, λ s. to Itself s refl);
@@ -141,25 +142,27 @@ module _ (w : Walk) (v : Inv w) (bs : List Bool) (j b e : ℕ) (rest : List Bool
       after : Walk
       after = apply w j b (Symbol.index e)
 
-      step-is : step w bs ≡ allow may (namingNumber (naming w j b e)) w after rest
+      step-is : step w bs ≡ resuming (allow may (namingNumber (naming w j b e)) w after rest)
       step-is = unfold step stepAt stepWith stepTaken in rw (h, a, q, fault-of)
 
       from : (nr : ℕ) → step w bs ≡ refusedBy nr w → Says (causeOf nr) w j b e
       from nr s =
-          let f = allow-number may (namingNumber (naming w j b e)) nr w after rest (sym step-is ∙ s) in
+          let f = allow-number may (namingNumber (naming w j b e)) nr w after rest (resuming-stops _ _ (sym step-is ∙ s)) in
           subst (λ c. Says c w j b e) (sym (cause-number (naming w j b e)) ∙ ap causeOf f) (naming-says w j b e)
 
       to : (c : Naming) → Says c w j b e → ofIndex (namingNumber c) ≡ true → step w bs ≡ refusedBy (namingNumber c) w
       to c s i =
           let f : naming w j b e ≡ c = says-naming w v j b h a e c s in
           let p : may ≡ false = not-true may (sym (three-causes w j b e) ∙ ap ofIndex (fault-of w j b e ∙ ap namingNumber f) ∙ i) in
-          step-is ∙ allow-no p (namingNumber (naming w j b e)) w after rest ∙ ap (λ (x : Naming). refusedBy (namingNumber x) w) f
+          step-is ∙ ap resuming (allow-no p (namingNumber (naming w j b e)) w after rest) ∙ ap (λ (x : Naming). refusedBy (namingNumber x) w) f
 
-      made : step w bs ≡ Step.goes after rest → Named w j b e
-      made s = named-index w j b e (allow-goes may (namingNumber (naming w j b e)) w after after rest rest (sym step-is ∙ s) .0)
+      made : step w bs ≡ Step.goes (resume after) rest → Named w j b e
+      made s =
+          let (w1, g, r) = resuming-goes _ (resume after) rest (sym step-is ∙ s) in
+          named-index w j b e (allow-goes may (namingNumber (naming w j b e)) w after w1 rest rest g .0)
 
-      makes : Named w j b e → step w bs ≡ Step.goes after rest
-      makes n = step-is ∙ allow-yes (index-named w j b e n) (namingNumber (naming w j b e)) w after rest
+      makes : Named w j b e → step w bs ≡ Step.goes (resume after) rest
+      makes n = step-is ∙ ap resuming (allow-yes (index-named w j b e n) (namingNumber (naming w j b e)) w after rest)
 
 -- The run as document 01 gives it: a w that is not permitted is refused by 12.
 
@@ -213,9 +216,8 @@ symbol-before w j b s rest = go (permitted w j b s) refl
     go true p = unfold allow stepTogether in refl
     go false p = unfold allow stepTogether together in rw (number s p)
 
-step-before : (w : Walk) (bs : List Bool) → formerStep w bs (head w) ≡ stepTogether (step w bs)
-unfolding step
-step-before w bs = at (head w)
+step-before : (w : Walk) (bs : List Bool) → w .form ≡ One → formerStep w bs (head w) ≡ stepTogether (step w bs)
+step-before w bs o = rw (one-step w bs o) (at (head w))
   where
     taken : (j b : ℕ) (t : Taken) → formerTaken w bs j b t ≡ stepTogether (stepTaken w bs j b t)
     taken j b (Taken.short k) = unfold formerTaken stepTaken stepTogether together in refl
@@ -234,13 +236,14 @@ step-before w bs = at (head w)
     at Head.none = unfold formerStep stepAt stepTogether together in refl
     at (Head.at j b) = unfold formerStep stepAt in with' j b (partner w j b)
 
--- with the three taken together every run is that of document 01: as many steps, the same walk and the same bits left, and 12 where one of them is given
-pub as-before : (k : ℕ) (w : Walk) (bs : List Bool) → formerRun k w bs ≡ together (run k w bs)
+-- with the three taken together every run of the one-body form is that of document 01: as many steps, the same walk and the same bits left, and 12 where one of them is given
+pub as-before : (k : ℕ) (w : Walk) (bs : List Bool) → w .form ≡ One → formerRun k w bs ≡ together (run k w bs)
 unfolding formerRun run
-as-before zero w bs = unfold together in refl
-as-before (suc k) w bs = rw (step-before w bs) (go (λ w' bs'. as-before k w' bs') (step w bs))
+as-before zero w bs o = unfold together in refl
+as-before (suc k) w bs o = rw (step-before w bs o) (go (λ w' bs' o'. as-before k w' bs' o') (step w bs) refl)
   where
-    go : ((w' : Walk) (bs' : List Bool) → formerRun k w' bs' ≡ together (run k w' bs'))
-        → (s : Step) → onward (λ w' bs'. formerRun k w' bs') (stepTogether s) ≡ together (onward (λ w' bs'. run k w' bs') s)
-    go rec (Step.goes w' bs') = unfold stepTogether onward in rec w' bs'
-    go rec (Step.stops r) = unfold stepTogether onward in refl
+    go : ((w' : Walk) (bs' : List Bool) → w' .form ≡ One → formerRun k w' bs' ≡ together (run k w' bs'))
+        → (s : Step) → step w bs ≡ s → onward (λ w' bs'. formerRun k w' bs') (stepTogether s) ≡ together (onward (λ w' bs'. run k w' bs') s)
+    go rec (Step.goes w' bs') e = unfold stepTogether onward in
+        let m = step-move w bs w' bs' e in rec w' bs' (move-form w w' (m .out) (m .move) ∙ o)
+    go rec (Step.stops r) e = unfold stepTogether onward in refl

@@ -12,6 +12,7 @@ use lib.Seq.{ext-getD, getD-drop}
 use lib.Dec.{ltb}
 use borrow.Author.Tests.{lt-ltb}
 use Rattle.rules.specs.declared.Session.{Session}
+use Rattle.rules.specs.declared.Form.{Form}
 use Rattle.rules.specs.Map.{Layout, mark, dimFits, dartsFit, size, place, Valid}
 use Rattle.rules.specs.Refusals.{among}
 use Rattle.rules.specs.Check.{Verdict, refuseIf, verdict, checkAnswer, checkWork}
@@ -25,8 +26,7 @@ use Rattle.rules.specs.Exchange.{refusalPlace, exchanged, movedVerdict, 
 use Rattle.rules.proofs.Places.{place-below}
 use Rattle.rules.proofs.Renamed.{SameMap, same-links}
 use Rattle.rules.proofs.Layouts.{moved-place, length-exchanged, entry-exchanged, past-exchanged, link-exchanged, exchanged-back}
-use Rattle.rules.proofs.Casts.{exchange-casts}
-use Rattle.rules.proofs.Follows.{stream-renamed}
+use Rattle.rules.proofs.Casts.{exchange-casts, stream-links}
 use Rattle.rules.proofs.Past.{refused-check, refused-write, refused-report, check-links, write-links, report-links, headerSizes, CastsFor}
 use Rattle.rules.proofs.Past.{readingCast, leftCast, reading-carried, leaves-carried, read-carried, sizes, fit-carried, page-carried, close-carried}
 use Rattle.rules.proofs.Sessions.{whole}
@@ -70,11 +70,11 @@ module _ (Y Z : Layout) (N n : ℕ) (t : List ℕ) (room : size N n ≤ length t
 
 -- The check, the writer and the report: equal answers but for the places of 6 and 7, which are the same link's two positions; equal work room and output. Of
 -- tables of any length.
-module _ (Y Z : Layout) (N n : ℕ) (t work : List ℕ) where
+module _ (F : Form) (Y Z : Layout) (N n : ℕ) (t work : List ℕ) where
   -- tables that are too short are refused alike
   short : length t < size N n → (root : ℕ)
-      → (nr : ℕ) × (p : ℕ) × (verdict Y N n root t (length work) ≡ Verdict.refused nr p)
-      × (verdict Z N n root (exchanged Y Z N n t) (length work) ≡ movedVerdict Y Z N n (Verdict.refused nr p))
+      → (nr : ℕ) × (p : ℕ) × (verdict F Y N n root t (length work) ≡ Verdict.refused nr p)
+      × (verdict F Z N n root (exchanged Y Z N n t) (length work) ≡ movedVerdict Y Z N n (Verdict.refused nr p))
   unfolding verdict refuseIf movedVerdict refusalPlace among
   short h root = go (dimFits N) (dartsFit n) refl refl
     where
@@ -88,58 +88,58 @@ module _ (Y Z : Layout) (N n : ℕ) (t work : List ℕ) where
       l' = rw (length-exchanged Y Z N n t) l
 
       go : (a b : Bool) → dimFits N ≡ a → dartsFit n ≡ b
-          → (nr : ℕ) × (p : ℕ) × (verdict Y N n root t (length work) ≡ Verdict.refused nr p)
-          × (verdict Z N n root u (length work) ≡ movedVerdict Y Z N n (Verdict.refused nr p))
+          → (nr : ℕ) × (p : ℕ) × (verdict F Y N n root t (length work) ≡ Verdict.refused nr p)
+          × (verdict F Z N n root u (length work) ≡ movedVerdict Y Z N n (Verdict.refused nr p))
       go false b p q = (1, 0, rw p, rw p)
       go true false p q = (2, 0, rw (p, q), rw (p, q))
       go true true p q = (3, 0, rw (p, q, l), rw (p, q, l'))
 
   pub check-agrees : (root : ℕ)
-      → (checkAnswer Z N n root (exchanged Y Z N n t) work ≡ movedCheck Y Z N n (checkAnswer Y N n root t work))
-      × (checkWork Z N n root (exchanged Y Z N n t) work ≡ checkWork Y N n root t work)
+      → (checkAnswer F Z N n root (exchanged Y Z N n t) work ≡ movedCheck Y Z N n (checkAnswer F Y N n root t work))
+      × (checkWork F Z N n root (exchanged Y Z N n t) work ≡ checkWork F Y N n root t work)
   check-agrees root = go (decLe (size N n) (length t))
     where
       go : Dec (size N n ≤ length t)
-          → (checkAnswer Z N n root (exchanged Y Z N n t) work ≡ movedCheck Y Z N n (checkAnswer Y N n root t work))
-          × (checkWork Z N n root (exchanged Y Z N n t) work ≡ checkWork Y N n root t work)
-      go (yes h) = check-links (one-map Y Z N n t h) root work
-      go (no h) = let (nr, p, e, q) = short (omega arith) root in refused-check Y Z N n root t (exchanged Y Z N n t) work nr p e q
+          → (checkAnswer F Z N n root (exchanged Y Z N n t) work ≡ movedCheck Y Z N n (checkAnswer F Y N n root t work))
+          × (checkWork F Z N n root (exchanged Y Z N n t) work ≡ checkWork F Y N n root t work)
+      go (yes h) = check-links (one-map Y Z N n t h) F root work
+      go (no h) = let (nr, p, e, q) = short (omega arith) root in refused-check F Y Z N n root t (exchanged Y Z N n t) work nr p e q
 
   pub write-agrees : (root start : ℕ) (out : List ℕ)
-      → (writeAnswer Z N n root start (exchanged Y Z N n t) work out ≡ movedWrite Y Z N n (writeAnswer Y N n root start t work out))
-      × (writeWork Z N n root (exchanged Y Z N n t) work ≡ writeWork Y N n root t work)
-      × (writeOut Z N n root start (exchanged Y Z N n t) work out ≡ writeOut Y N n root start t work out)
+      → (writeAnswer F Z N n root start (exchanged Y Z N n t) work out ≡ movedWrite Y Z N n (writeAnswer F Y N n root start t work out))
+      × (writeWork F Z N n root (exchanged Y Z N n t) work ≡ writeWork F Y N n root t work)
+      × (writeOut F Z N n root start (exchanged Y Z N n t) work out ≡ writeOut F Y N n root start t work out)
   unfolding writeWork
   write-agrees root start out = go (decLe (size N n) (length t))
     where
       go : Dec (size N n ≤ length t)
-          → (writeAnswer Z N n root start (exchanged Y Z N n t) work out ≡ movedWrite Y Z N n (writeAnswer Y N n root start t work out))
-          × (checkWork Z N n root (exchanged Y Z N n t) work ≡ checkWork Y N n root t work)
-          × (writeOut Z N n root start (exchanged Y Z N n t) work out ≡ writeOut Y N n root start t work out)
-      go (yes h) = unfold writeWork in write-links (one-map Y Z N n t h) root start work out
+          → (writeAnswer F Z N n root start (exchanged Y Z N n t) work out ≡ movedWrite Y Z N n (writeAnswer F Y N n root start t work out))
+          × (checkWork F Z N n root (exchanged Y Z N n t) work ≡ checkWork F Y N n root t work)
+          × (writeOut F Z N n root start (exchanged Y Z N n t) work out ≡ writeOut F Y N n root start t work out)
+      go (yes h) = unfold writeWork in write-links (one-map Y Z N n t h) F root start work out
       go (no h) =
           let (nr, p, e, q) = short (omega arith) root in
-          let (a, o) = refused-write Y Z N n root t (exchanged Y Z N n t) work nr p e q start out in
+          let (a, o) = refused-write F Y Z N n root t (exchanged Y Z N n t) work nr p e q start out in
           (a, check-agrees root .1, o)
 
-  pub report-agrees : (reportAnswer Z N n (exchanged Y Z N n t) work ≡ movedReport Y Z N n (reportAnswer Y N n t work))
-      × (reportWork Z N n (exchanged Y Z N n t) work ≡ reportWork Y N n t work)
+  pub report-agrees : (reportAnswer F Z N n (exchanged Y Z N n t) work ≡ movedReport Y Z N n (reportAnswer F Y N n t work))
+      × (reportWork F Z N n (exchanged Y Z N n t) work ≡ reportWork F Y N n t work)
   report-agrees = go (decLe (size N n) (length t))
     where
       go : Dec (size N n ≤ length t)
-          → (reportAnswer Z N n (exchanged Y Z N n t) work ≡ movedReport Y Z N n (reportAnswer Y N n t work))
-          × (reportWork Z N n (exchanged Y Z N n t) work ≡ reportWork Y N n t work)
-      go (yes h) = report-links (one-map Y Z N n t h) work
-      go (no h) = let (nr, p, e, q) = short (omega arith) 0 in refused-report Y Z N n t (exchanged Y Z N n t) work nr p e q
+          → (reportAnswer F Z N n (exchanged Y Z N n t) work ≡ movedReport Y Z N n (reportAnswer F Y N n t work))
+          × (reportWork F Z N n (exchanged Y Z N n t) work ≡ reportWork F Y N n t work)
+      go (yes h) = report-links (one-map Y Z N n t h) F work
+      go (no h) = let (nr, p, e, q) = short (omega arith) 0 in refused-report F Y Z N n t (exchanged Y Z N n t) work nr p e q
 
 -- the stream from each root, and every page of it
-pub stream-agrees : (Y Z : Layout) (N n : ℕ) (t : List ℕ) → size N n ≤ length t → N ≤ 6 → n ≤ 4096 → Valid Y N n t → (root : ℕ) → root < n
-    → (stream Z N n (exchanged Y Z N n t) root ≡ stream Y N n t root)
-    × ((start room : ℕ) → pageOf (stream Z N n (exchanged Y Z N n t) root) start room ≡ pageOf (stream Y N n t root) start room)
-stream-agrees Y Z N n t h h6 hn A root hr = (same, λ start room. ap (λ (l : List ℕ). pageOf l start room) same)
+pub stream-agrees : (F : Form) (Y Z : Layout) (N n : ℕ) (t : List ℕ) → size N n ≤ length t → N ≤ 6 → n ≤ 4096 → Valid Y N n t → (root : ℕ) → root < n
+    → (stream F Z N n (exchanged Y Z N n t) root ≡ stream F Y N n t root)
+    × ((start room : ℕ) → pageOf (stream F Z N n (exchanged Y Z N n t) root) start room ≡ pageOf (stream F Y N n t root) start room)
+stream-agrees F Y Z N n t h h6 hn A root hr = (same, λ start room. ap (λ (l : List ℕ). pageOf l start room) same)
   where
-    same : stream Z N n (exchanged Y Z N n t) root ≡ stream Y N n t root
-    same = stream-renamed (one-map Y Z N n t h .links) h6 hn hr A
+    same : stream F Z N n (exchanged Y Z N n t) root ≡ stream F Y N n t root
+    same = stream-links F (one-map Y Z N n t h .links) h6 hn hr A
 
 -- Reading: the tables are exchanged for the map whose entries the call may touch; where there is none, no entry is.
 

@@ -18,7 +18,7 @@ use Rattle.rules.specs.declared.State.the-variants.{Header, Running, Com
 use Rattle.rules.specs.Map.{Layout}
 use Rattle.rules.specs.Stream.{bitsOf, value, unpack, pack, Taken, takeIndex, takeSymbol}
 use Rattle.rules.specs.Walk.{Walk, enough}
-use Rattle.rules.specs.Reading.{stepTaken, stepWith, stepAt, step, onward, run, runAll, Reading, spoiled, settle, readHeader, readingOf, closing}
+use Rattle.rules.specs.Reading.{stepTaken, stepWith, stepAt, resuming, step, onward, run, runAll, Reading, spoiled, settle, readHeader, readingOf, closing}
 use Rattle.rules.specs.Reading.{goodAnswer, plainAnswer, answerOf, tablesOf, readWhole, readAnswer, readTables}
 use Rattle.rules.specs.Session.{idle, held, store, opened, waitingOf, begins, fit, unchanged, leaves, afterEnd, pageAs, ifFit, page, close, recordFor}
 use Rattle.rules.specs.Session.{tablesFor}
@@ -335,7 +335,7 @@ stays-running : (w : Walk) (bs ys : List Bool) → Asks w bs → isWhole (takeSy
 stays-running w bs ys a = go (takeSymbol (bs ++ ys)) refl
   where
     go : (t : Taken) → takeSymbol (bs ++ ys) ≡ t → isWhole t ≡ false → settle (runAll w (bs ++ ys)) ≡ Reading.running w (bs ++ ys)
-    go (Taken.short k) q e = unfold runAll run onward enough step stepAt stepWith stepTaken settle in rw (a .next, a .needs, q)
+    go (Taken.short k) q e = unfold runAll run onward enough step resuming stepAt stepWith stepTaken settle in rw (a .next, a .needs, q)
     go (Taken.symbol s rest) q e = unfold isWhole in let z : _≡_ {A = ℕ} 0 1 = cc in absurd (omega arith)
 
 -- a reading that waits on, with more bits
@@ -480,11 +480,12 @@ client-reads Y bytes t e = rw (opening-sofar Y t) (client-from Y (length bytes) 
 pub opening-page : (Y : Layout) (t : List ℕ) → pageCall Y opened [] t ≡ opening t
 opening-page Y t = ap (λ (x : PageLeft). pageCall Y (x .session) [] (x .tables)) (opening-sofar Y t) ∙ (call-reads Y [] [] t ∙ sym (opening-sofar Y t))
 
--- of the stream of a valid connected map within the limits, with room for its tables
+-- of the stream of a valid map within the limits with the bodies of its form, with room for its tables
 module _ {Y : Layout} {bytes t : List ℕ} (S : Streamed Y bytes t) where
   streamed-accepted : readAnswer Y bytes t .number ≡ 0
   streamed-accepted =
-      rw (← S .has) (ap (λ (a : ReadAnswer). a .number) (complete Y (S .dim) (S .darts) (S .map) (S .root) t (S .limits) (S .valid) (S .connected) .answer))
+      rw (← S .has) (ap (λ (a : ReadAnswer). a .number)
+      (complete (S .form) Y (S .dim) (S .darts) (S .map) (S .root) t (S .limits) (S .valid) (S .bodies) .answer))
 
   pub map-left : (xs ys : List ℕ) → xs ++ ys ≡ bytes → fetchOf (recordFor Y xs t) ≤ length ys
   map-left xs ys e = never-past Y xs ys t (rw e streamed-accepted) .0

@@ -10,10 +10,11 @@ use lib.Dec.{eqb, leb}
 use Rattle.rules.specs.declared.Session.{Session}
 use Rattle.rules.specs.declared.State.{State}
 use Rattle.rules.specs.declared.State.the-variants.{Header, Running, Complete, Closed, Refused}
+use Rattle.rules.specs.Bodies.{noBodies}
 use Rattle.rules.specs.Map.{Layout, dimFits, size}
 use Rattle.rules.specs.Walk.{Walk, start, enough}
 use Rattle.rules.specs.Refusals.{among, ofIndex, atHeader, inStep, atEnd, wipes}
-use Rattle.rules.specs.Reading.{Run, run, runAll, Reading, spoiled, finish, settle, begun, headerDim, headerDarts, readHeader, readingOf, closing}
+use Rattle.rules.specs.Reading.{Run, run, runAll, Reading, spoiled, finish, settle, begun, headerForm, headerDim, headerDarts, readHeader, readingOf, closing}
 use Rattle.rules.specs.Reading.{goodAnswer, plainAnswer, answerOf, readWhole, readAnswer}
 use Rattle.rules.specs.Session.{walkOf, waitingOf, fitAs, fit, Left, unchanged, leaves, goOn, afterEnd, pageAs, closeAs, ifFit, page, close}
 use Rattle.rules.specs.Stream.{unpack}
@@ -74,10 +75,10 @@ reading-finds Y bits t = go (leb 16 (length bits))
     n : ℕ
     n = headerDarts bits
 
-    body : (a b : Bool) → Finds (begun Y a b N n (drop 16 bits) t)
+    body : (a b : Bool) → Finds (begun (headerForm bits) Y a b N n (drop 16 bits) t)
     body false b = unfold begun Finds answerOf plainAnswer found atHeader among in inr refl
     body true false = unfold begun Finds answerOf plainAnswer found atHeader among in inr refl
-    body true true = unfold begun in run-finds (start Y N n t) (drop 16 bits)
+    body true true = unfold begun in run-finds (start (headerForm bits) Y N n t) (drop 16 bits)
 
     go : (b : Bool) → Finds (readHeader Y b bits t)
     go false = unfold readHeader Finds answerOf plainAnswer in inl refl
@@ -151,15 +152,17 @@ pub close-12 : (Y : Layout) (s : Session) (t : List ℕ) → close Y s t .answer
 unfolding close
 close-12 Y s t e = gives-12 (fit-gives s t _ (fit Y s t) (close-gives Y s t (s .state) refl)) e
 
--- and such a record repeats it: it is fit, with any tables, and nothing changes
-fit-12 : (Y : Layout) (s : Session) (t : List ℕ) (p : ℕ) → s .state ≡ Refused 12 p → fit Y s t ≡ true
+-- and such a record repeats it, with form and bodies as a refusal leaves them: it is fit, with any tables, and nothing changes
+fit-12 : (Y : Layout) (s : Session) (t : List ℕ) (p : ℕ) → s .state ≡ Refused 12 p → noBodies (s .form) (s .bodies) ≡ true → fit Y s t ≡ true
 unfolding fit fitAs
-fit-12 Y s t p q = rw q (wipes-fit 12 p (unfold wipes in refl))
+fit-12 Y s t p q b = rw q (rw (wipes-fit 12 p (unfold wipes in refl)) b)
 
-pub page-repeats-12 : (Y : Layout) (s : Session) (bytes t : List ℕ) (p : ℕ) → s .state ≡ Refused 12 p → page Y s bytes t ≡ unchanged s t (plainAnswer 12 p)
+pub page-repeats-12 : (Y : Layout) (s : Session) (bytes t : List ℕ) (p : ℕ) → s .state ≡ Refused 12 p → noBodies (s .form) (s .bodies) ≡ true
+    → page Y s bytes t ≡ unchanged s t (plainAnswer 12 p)
 unfolding pageAs
-page-repeats-12 Y s bytes t p q = page-as Y s bytes t (Refused 12 p) (fit-12 Y s t p q) q
+page-repeats-12 Y s bytes t p q b = page-as Y s bytes t (Refused 12 p) (fit-12 Y s t p q b) q
 
-pub close-repeats-12 : (Y : Layout) (s : Session) (t : List ℕ) (p : ℕ) → s .state ≡ Refused 12 p → close Y s t ≡ unchanged s t (plainAnswer 12 p)
+pub close-repeats-12 : (Y : Layout) (s : Session) (t : List ℕ) (p : ℕ) → s .state ≡ Refused 12 p → noBodies (s .form) (s .bodies) ≡ true
+    → close Y s t ≡ unchanged s t (plainAnswer 12 p)
 unfolding closeAs
-close-repeats-12 Y s t p q = close-as Y s t (Refused 12 p) (fit-12 Y s t p q) q
+close-repeats-12 Y s t p q b = close-as Y s t (Refused 12 p) (fit-12 Y s t p q b) q

@@ -24,16 +24,19 @@ use Rattle.rules.specs.declared.State.the-variants.{Header, Running, Com
 use Rattle.rules.specs.Lists.{listOf, someBelow, first}
 use Rattle.rules.specs.Map.{Layout, dimFits, dartsFit, size, link, pairs, pairsFor, pairsOf, pairAt, broken, firstBroken, allRanks, spread, within}
 use Rattle.rules.specs.Map.{reaches}
+use Rattle.rules.specs.declared.Form.{Form}
+use Rattle.rules.specs.declared.Form.the-variants.{One, Several}
+use Rattle.rules.specs.Bodies.{endNumber, bodiesFit}
 use Rattle.rules.specs.Walk.{Walk, start, Head, head, unknown, Partner, partner, pass, tie, steps, Symbol, apply, enough, Walked, namesOf}
 use Rattle.rules.specs.Stream.{value, unpack, Taken, takeSymbol}
 use Rattle.rules.specs.Naming.{naming}
 use Rattle.rules.specs.Refusals.{among}
-use Rattle.rules.specs.Check.{Verdict, refuseIf, spot, outside, twisted, unreached, tablesVerdict, verdict, numbering, workAfter, checkAnswerOf}
-use Rattle.rules.specs.Check.{checkAnswer, checkWork}
+use Rattle.rules.specs.Check.{Verdict, refuseIf, spot, outside, twisted, unreached, bodiesVerdict, tablesVerdict, verdict, numbering, workAfter}
+use Rattle.rules.specs.Check.{checkAnswerOf, checkAnswer, checkWork}
 use Rattle.rules.specs.Exchange.{movedPlace, refusalPlace, movedVerdict, movedCheck, movedWrite, movedReport}
 use Rattle.rules.specs.Writing.{stream, startVerdict, writeVerdict, pageAfter, writeAnswerOf, writePage, writeAnswer, writeOut, writeWork}
-use Rattle.rules.specs.Reading.{Run, Step, permitted, fault, allow, stepTaken, stepWith, stepAt, step, onward, run, runAll, Reading, spoiled}
-use Rattle.rules.specs.Reading.{test, manifold, finish, settle, begun, headerDim, headerDarts, readHeader, readingOf, closing, goodAnswer}
+use Rattle.rules.specs.Reading.{Run, Step, permitted, fault, allow, stepTaken, stepWith, stepAt, resuming, step, onward, run, runAll, Reading}
+use Rattle.rules.specs.Reading.{spoiled, test, bodiesFound, manifold, finish, settle, begun, headerForm, headerDim, headerDarts, readHeader, readingOf, closing, goodAnswer}
 use Rattle.rules.specs.Reading.{answerOf, tablesOf, readWhole, readAnswer, readTables}
 use Rattle.rules.specs.Session.{idle, held, store, walkAt, walkOf, waitingOf, valueFits, positionsFit, entryFits, entriesFit, walkFits, asks, begins}
 use Rattle.rules.specs.Session.{allDone, fitAs}
@@ -44,7 +47,7 @@ use Rattle.rules.proofs.Lists.{and-left, below-same, some-same, first-s
 use Rattle.rules.proofs.Places.{nth-some, nth-rank, nth-dart, Alike}
 use Rattle.rules.proofs.Pairs.{nth, nth-fits, prefix-within}
 use Rattle.rules.proofs.Renamed.{SameLinks, same-links, links-same, alike-same, SameMap, map-alike, alike-map}
-use Rattle.rules.proofs.Check.{fine-passes}
+use Rattle.rules.proofs.Check.{wanted-rooted, fine-passes}
 use Rattle.rules.proofs.Positions.{Next}
 use Rattle.rules.specs.Inner.{Inv}
 use Rattle.rules.proofs.Walks.{start-inv, next-of}
@@ -53,9 +56,10 @@ use Rattle.rules.proofs.Runs.{moves-inv, moves-grow, Final, ran}
 use Rattle.rules.proofs.Readings.{Settled, Header as Accepted, dim-fits, fits-dim, header-darts, header-inv, Comes, comes}
 use Rattle.rules.proofs.Fitness.{Fits, fits-inv, running-part}
 use Rattle.rules.proofs.Sessions.{headerSize, reachAs, reach, page-past, close-past, read-past, reading-fits}
-use Rattle.rules.proofs.Follows.{write-follows, report-follows}
+use Rattle.rules.proofs.Follows.{write-equal, report-follows}
 use Rattle.rules.proofs.Layouts.{moved-place, moved-same}
-use Rattle.rules.proofs.Casts.{Casts, behind-casts, cast, CastsOf, casts-on, link-cast, partner-cast, deduced-cast, apply-cast, walk-links}
+use Rattle.rules.proofs.Casts.{Casts, behind-casts, cast, CastsOf, casts-on, link-cast, partner-cast, deduced-cast, apply-cast, resume-cast, walk-links}
+use Rattle.rules.proofs.Casts.{stream-links}
 
 -- tables with the same first k entries are one, or each has k entries or more
 alike-cases : (k : ℕ) (t u : List ℕ) → Alike k t u → (t ≡ u) ⊎ ((k ≤ length t) × (k ≤ length u))
@@ -94,23 +98,23 @@ refuse-moved Y Z N n true nr p p' v v' f e = ap (Verdict.refused nr) (f refl)
 refuse-moved Y Z N n false nr p p' v v' f e = e refl
 
 -- where one is refused and the other by the same number, at the same link's position, the calls leave the same
-module _ (Y Z : Layout) (N n root : ℕ) (t u work : List ℕ) (nr p : ℕ) (e : verdict Y N n root t (length work) ≡ Verdict.refused nr p)
-    (q : verdict Z N n root u (length work) ≡ movedVerdict Y Z N n (Verdict.refused nr p)) where
-  pub refused-check : (checkAnswer Z N n root u work ≡ movedCheck Y Z N n (checkAnswer Y N n root t work))
-      × (checkWork Z N n root u work ≡ checkWork Y N n root t work)
+module _ (F : Form) (Y Z : Layout) (N n root : ℕ) (t u work : List ℕ) (nr p : ℕ) (e : verdict F Y N n root t (length work) ≡ Verdict.refused nr p)
+    (q : verdict F Z N n root u (length work) ≡ movedVerdict Y Z N n (Verdict.refused nr p)) where
+  pub refused-check : (checkAnswer F Z N n root u work ≡ movedCheck Y Z N n (checkAnswer F Y N n root t work))
+      × (checkWork F Z N n root u work ≡ checkWork F Y N n root t work)
   unfolding checkAnswer checkWork checkAnswerOf workAfter movedVerdict movedCheck
   refused-check = (rw (q, e), rw (q, e))
 
   pub refused-write : (start : ℕ) (out : List ℕ)
-      → (writeAnswer Z N n root start u work out ≡ movedWrite Y Z N n (writeAnswer Y N n root start t work out))
-      × (writeOut Z N n root start u work out ≡ writeOut Y N n root start t work out)
+      → (writeAnswer F Z N n root start u work out ≡ movedWrite Y Z N n (writeAnswer F Y N n root start t work out))
+      × (writeOut F Z N n root start u work out ≡ writeOut F Y N n root start t work out)
   unfolding writeAnswer writeOut writePage writeVerdict startVerdict pageAfter writeAnswerOf movedVerdict movedWrite
   refused-write start out = (rw (q, e), rw (q, e))
 
 -- the report checks from dart 0
-module _ (Y Z : Layout) (N n : ℕ) (t u work : List ℕ) (nr p : ℕ) (e : verdict Y N n 0 t (length work) ≡ Verdict.refused nr p)
-    (q : verdict Z N n 0 u (length work) ≡ movedVerdict Y Z N n (Verdict.refused nr p)) where
-  pub refused-report : (reportAnswer Z N n u work ≡ movedReport Y Z N n (reportAnswer Y N n t work)) × (reportWork Z N n u work ≡ reportWork Y N n t work)
+module _ (F : Form) (Y Z : Layout) (N n : ℕ) (t u work : List ℕ) (nr p : ℕ) (e : verdict F Y N n 0 t (length work) ≡ Verdict.refused nr p)
+    (q : verdict F Z N n 0 u (length work) ≡ movedVerdict Y Z N n (Verdict.refused nr p)) where
+  pub refused-report : (reportAnswer F Z N n u work ≡ movedReport Y Z N n (reportAnswer F Y N n t work)) × (reportWork F Z N n u work ≡ reportWork F Y N n t work)
   unfolding reportAnswer reportAnswerOf reportWork reportWorkAfter movedVerdict movedReport
   refused-report = (rw (q, e), rw (q, e))
 
@@ -182,54 +186,60 @@ module _ {Y Z : Layout} {N n : ℕ} {t u : List ℕ} (S : SameMap Y Z N n t u) w
   unfolding movedVerdict
   fine-moved = refl
 
+  -- 9 and 30 have no position for their place
+  bodies-moved : (F : Form) (p : ℕ) → bodiesVerdict F n p ≡ movedVerdict Y Z N n (bodiesVerdict F n p)
+  unfolding bodiesVerdict refusalPlace among
+  bodies-moved One p = refuse-moved Y Z N n _ 9 _ _ _ _ (λ q. refl) (λ _. fine-moved)
+  bodies-moved Several p = refuse-moved Y Z N n _ 30 _ _ _ _ (λ q. refl) (λ _. fine-moved)
+
   -- so the verdict is the same with any numbers, but for the place of 6 and 7
-  tables-links : N ≤ 6 → (root : ℕ) → tablesVerdict Z N n root u ≡ movedVerdict Y Z N n (tablesVerdict Y N n root t)
+  tables-links : (F : Form) → N ≤ 6 → (root : ℕ) → tablesVerdict F Z N n root u ≡ movedVerdict Y Z N n (tablesVerdict F Y N n root t)
   unfolding tablesVerdict refusalPlace among
-  tables-links h6 root =
+  tables-links F h6 root =
       rw (outside-links, twisted-links, manifold-links h6, unreached-links root)
       (refuse-moved Y Z N n _ 6 _ _ _ _ (λ q. spot-links _ (ltb-true _ _ q)) (λ _.
       refuse-moved Y Z N n _ 7 _ _ _ _ (λ q. spot-links _ (ltb-true _ _ q)) (λ _.
-      refuse-moved Y Z N n _ 8 _ _ _ _ (λ q. refl) (λ _.
-      refuse-moved Y Z N n _ 9 _ _ _ _ (λ q. refl) (λ _. fine-moved)))))
+      refuse-moved Y Z N n _ 8 _ _ _ _ (λ q. refl) (λ _. bodies-moved F _))))
 
-  pub verdict-links : (root room : ℕ) → verdict Z N n root u room ≡ movedVerdict Y Z N n (verdict Y N n root t room)
+  pub verdict-links : (F : Form) (root room : ℕ) → verdict F Z N n root u room ≡ movedVerdict Y Z N n (verdict F Y N n root t room)
   unfolding verdict refusalPlace among
-  verdict-links root room =
+  verdict-links F root room =
       refuse-moved Y Z N n _ 1 0 0 _ _ (λ q. refl) (λ a.
       refuse-moved Y Z N n _ 2 0 0 _ _ (λ q. refl) (λ _.
       rw (le-ltb (length t) (size N n) (S .room), le-ltb (length u) (size N n) (S .room'))
       (refuse-moved Y Z N n false 3 0 0 _ _ (λ q. refl) (λ _.
       refuse-moved Y Z N n _ 4 0 0 _ _ (λ q. refl) (λ _.
-      refuse-moved Y Z N n _ 5 0 0 _ _ (λ q. refl) (λ _. tables-links (dim-fits N (not-false (dimFits N) a) .1) root))))))
+      refuse-moved Y Z N n _ 5 0 0 _ _ (λ q. refl) (λ _. tables-links F (dim-fits N (not-false (dimFits N) a) .1) root))))))
 
   -- where the check is fine the walk gives the same names
-  names-links : (root room : ℕ) → verdict Y N n root t room ≡ Verdict.fine → namesOf Z N n u root ≡ namesOf Y N n t root
+  names-links : (F : Form) (root room : ℕ) → verdict F Y N n root t room ≡ Verdict.fine → namesOf F Z N n u root ≡ namesOf F Y N n t root
   unfolding namesOf
-  names-links root room e =
-      let P = fine-passes Y N n root t room e in
-      ap (λ (r : Walked). r .names) (walk-links (S .links) (P .limits .dims .1) (P .limits .darts .1) (P .connected .rooted) (P .valid))
+  names-links F root room e =
+      let P = fine-passes F Y N n root t room e in
+      ap (λ (r : Walked). r .names)
+      (walk-links F (S .links) (P .limits .dims .1) (P .limits .darts .1) (wanted-rooted F Y N n t root (P .bodies)) (P .valid))
 
   -- the check gives the same answer, but for the place of 6 and 7, and leaves the same work room
-  pub check-links : (root : ℕ) (work : List ℕ)
-      → (checkAnswer Z N n root u work ≡ movedCheck Y Z N n (checkAnswer Y N n root t work)) × (checkWork Z N n root u work ≡ checkWork Y N n root t work)
-  check-links root work = go (verdict Y N n root t (length work)) refl (verdict-links root (length work))
+  pub check-links : (F : Form) (root : ℕ) (work : List ℕ)
+      → (checkAnswer F Z N n root u work ≡ movedCheck Y Z N n (checkAnswer F Y N n root t work)) × (checkWork F Z N n root u work ≡ checkWork F Y N n root t work)
+  check-links F root work = go (verdict F Y N n root t (length work)) refl (verdict-links F root (length work))
     where
-      go : (v : Verdict) → verdict Y N n root t (length work) ≡ v
-          → verdict Z N n root u (length work) ≡ movedVerdict Y Z N n (verdict Y N n root t (length work))
-          → (checkAnswer Z N n root u work ≡ movedCheck Y Z N n (checkAnswer Y N n root t work)) × (checkWork Z N n root u work ≡ checkWork Y N n root t work)
+      go : (v : Verdict) → verdict F Y N n root t (length work) ≡ v
+          → verdict F Z N n root u (length work) ≡ movedVerdict Y Z N n (verdict F Y N n root t (length work))
+          → (checkAnswer F Z N n root u work ≡ movedCheck Y Z N n (checkAnswer F Y N n root t work)) × (checkWork F Z N n root u work ≡ checkWork F Y N n root t work)
       go Verdict.fine e q = unfold checkAnswer checkWork checkAnswerOf workAfter movedVerdict movedCheck refusalPlace among numbering in
-          (rw (q, e), rw (q, e, names-links root (length work) e))
-      go (Verdict.refused nr p) e q = refused-check Y Z N n root t u work nr p e (q ∙ ap (movedVerdict Y Z N n) e)
+          (rw (q, e), rw (q, e, names-links F root (length work) e))
+      go (Verdict.refused nr p) e q = refused-check F Y Z N n root t u work nr p e (q ∙ ap (movedVerdict Y Z N n) e)
 
   -- the writer gives the same answer, but for the place of 6 and 7, and leaves the same work room and output
-  pub write-links : (root start : ℕ) (work out : List ℕ)
-      → (writeAnswer Z N n root start u work out ≡ movedWrite Y Z N n (writeAnswer Y N n root start t work out))
-      × (writeWork Z N n root u work ≡ writeWork Y N n root t work) × (writeOut Z N n root start u work out ≡ writeOut Y N n root start t work out)
+  pub write-links : (F : Form) (root start : ℕ) (work out : List ℕ)
+      → (writeAnswer F Z N n root start u work out ≡ movedWrite Y Z N n (writeAnswer F Y N n root start t work out))
+      × (writeWork F Z N n root u work ≡ writeWork F Y N n root t work) × (writeOut F Z N n root start u work out ≡ writeOut F Y N n root start t work out)
   unfolding writeWork
-  write-links root start work out = let (a, o) = go (verdict Y N n root t (length work)) refl in (a, check-links root work .1, o)
+  write-links F root start work out = let (a, o) = go (verdict F Y N n root t (length work)) refl in (a, check-links F root work .1, o)
     where
-      q : verdict Z N n root u (length work) ≡ movedVerdict Y Z N n (verdict Y N n root t (length work))
-      q = verdict-links root (length work)
+      q : verdict F Z N n root u (length work) ≡ movedVerdict Y Z N n (verdict F Y N n root t (length work))
+      q = verdict-links F root (length work)
 
       -- 10 and success have no position for their place
       late : (b : Bool) (written l : ℕ)
@@ -237,33 +247,37 @@ module _ {Y Z : Layout} {N n : ℕ} {t u : List ℕ} (S : SameMap Y Z N n t u) w
       late true written l = unfold refuseIf writeAnswerOf movedWrite refusalPlace among in refl
       late false written l = unfold refuseIf writeAnswerOf movedWrite refusalPlace among in refl
 
-      fine : verdict Y N n root t (length work) ≡ Verdict.fine
-          → writeAnswer Y N n root start t work out ≡ movedWrite Y Z N n (writeAnswer Y N n root start t work out)
+      fine : verdict F Y N n root t (length work) ≡ Verdict.fine
+          → writeAnswer F Y N n root start t work out ≡ movedWrite Y Z N n (writeAnswer F Y N n root start t work out)
       fine e = unfold writeAnswer writeVerdict startVerdict in
-          rw e (late (ltb (length (stream Y N n t root)) start) (length (writePage Y N n root start t work out)) (length (stream Y N n t root)))
+          rw e (late (ltb (length (stream F Y N n t root)) start) (length (writePage F Y N n root start t work out)) (length (stream F Y N n t root)))
 
-      go : (v : Verdict) → verdict Y N n root t (length work) ≡ v
-          → (writeAnswer Z N n root start u work out ≡ movedWrite Y Z N n (writeAnswer Y N n root start t work out))
-          × (writeOut Z N n root start u work out ≡ writeOut Y N n root start t work out)
-      go Verdict.fine e = let (a, o) = write-follows (S .links) root start work out (S .room') e in (a ∙ fine e, o)
-      go (Verdict.refused nr p) e = refused-write Y Z N n root t u work nr p e (q ∙ ap (movedVerdict Y Z N n) e) start out
+      go : (v : Verdict) → verdict F Y N n root t (length work) ≡ v
+          → (writeAnswer F Z N n root start u work out ≡ movedWrite Y Z N n (writeAnswer F Y N n root start t work out))
+          × (writeOut F Z N n root start u work out ≡ writeOut F Y N n root start t work out)
+      go Verdict.fine e =
+          let P = fine-passes F Y N n root t (length work) e in
+          let s = stream-links F (S .links) (P .limits .dims .1) (P .limits .darts .1) (wanted-rooted F Y N n t root (P .bodies)) (P .valid) in
+          let (a, o) = write-equal F Y Z N n t u root root start work out e (q ∙ (unfold movedVerdict in rw e)) s in
+          (a ∙ fine e, o)
+      go (Verdict.refused nr p) e = refused-write F Y Z N n root t u work nr p e (q ∙ ap (movedVerdict Y Z N n) e) start out
 
   -- the report gives the same answer, but for the place of 6 and 7, and leaves the same work room
-  pub report-links : (work : List ℕ)
-      → (reportAnswer Z N n u work ≡ movedReport Y Z N n (reportAnswer Y N n t work)) × (reportWork Z N n u work ≡ reportWork Y N n t work)
+  pub report-links : (F : Form) (work : List ℕ)
+      → (reportAnswer F Z N n u work ≡ movedReport Y Z N n (reportAnswer F Y N n t work)) × (reportWork F Z N n u work ≡ reportWork F Y N n t work)
   unfolding reportWork
-  report-links work = (go (verdict Y N n 0 t (length work)) refl, rw q (left (verdict Y N n 0 t (length work))))
+  report-links F work = (go (verdict F Y N n 0 t (length work)) refl, rw q (left (verdict F Y N n 0 t (length work))))
     where
-      q : verdict Z N n 0 u (length work) ≡ movedVerdict Y Z N n (verdict Y N n 0 t (length work))
-      q = verdict-links 0 (length work)
+      q : verdict F Z N n 0 u (length work) ≡ movedVerdict Y Z N n (verdict F Y N n 0 t (length work))
+      q = verdict-links F 0 (length work)
 
       left : (v : Verdict) → reportWorkAfter n work (movedVerdict Y Z N n v) ≡ reportWorkAfter n work v
       left Verdict.fine = unfold movedVerdict in refl
       left (Verdict.refused nr p) = unfold movedVerdict reportWorkAfter in refl
 
-      go : (v : Verdict) → verdict Y N n 0 t (length work) ≡ v → reportAnswer Z N n u work ≡ movedReport Y Z N n (reportAnswer Y N n t work)
-      go Verdict.fine e = report-follows (S .links) work (S .room') e ∙ (unfold reportAnswer reportAnswerOf movedReport refusalPlace among in rw e)
-      go (Verdict.refused nr p) e = refused-report Y Z N n t u work nr p e (q ∙ ap (movedVerdict Y Z N n) e) .0
+      go : (v : Verdict) → verdict F Y N n 0 t (length work) ≡ v → reportAnswer F Z N n u work ≡ movedReport Y Z N n (reportAnswer F Y N n t work)
+      go Verdict.fine e = report-follows F (S .links) work (S .room') e ∙ (unfold reportAnswer reportAnswerOf movedReport refusalPlace among in rw e)
+      go (Verdict.refused nr p) e = refused-report F Y Z N n t u work nr p e (q ∙ ap (movedVerdict Y Z N n) e) .0
 
 -- In one layout no position moves, so the answers are equal.
 module _ (Y : Layout) (N n : ℕ) where
@@ -303,27 +317,27 @@ alike-links Y N n X one two t u A = go (alike-cases (size N n) t u A)
     go (inr (h, h')) = two t u (alike-map h h' A)
 
 -- the check
-pub check-alike : (Y : Layout) (N n root : ℕ) (t u work : List ℕ) → Alike (size N n) t u
-    → (checkAnswer Y N n root t work ≡ checkAnswer Y N n root u work) × (checkWork Y N n root t work ≡ checkWork Y N n root u work)
-check-alike Y N n root t u work A =
-    alike-links Y N n (λ t u. (checkAnswer Y N n root t work ≡ checkAnswer Y N n root u work) × (checkWork Y N n root t work ≡ checkWork Y N n root u work))
-    (λ l. (refl, refl)) (λ t u S. let (a, b) = check-links S root work in (sym (a ∙ same-check Y N n _), sym b)) t u A
+pub check-alike : (F : Form) (Y : Layout) (N n root : ℕ) (t u work : List ℕ) → Alike (size N n) t u
+    → (checkAnswer F Y N n root t work ≡ checkAnswer F Y N n root u work) × (checkWork F Y N n root t work ≡ checkWork F Y N n root u work)
+check-alike F Y N n root t u work A =
+    alike-links Y N n (λ t u. (checkAnswer F Y N n root t work ≡ checkAnswer F Y N n root u work) × (checkWork F Y N n root t work ≡ checkWork F Y N n root u work))
+    (λ l. (refl, refl)) (λ t u S. let (a, b) = check-links S F root work in (sym (a ∙ same-check Y N n _), sym b)) t u A
 
 -- the writer
-pub write-alike : (Y : Layout) (N n root start : ℕ) (t u work out : List ℕ) → Alike (size N n) t u
-    → (writeAnswer Y N n root start t work out ≡ writeAnswer Y N n root start u work out) × (writeWork Y N n root t work ≡ writeWork Y N n root u work)
-    × (writeOut Y N n root start t work out ≡ writeOut Y N n root start u work out)
-write-alike Y N n root start t u work out A =
-    alike-links Y N n (λ t u. (writeAnswer Y N n root start t work out ≡ writeAnswer Y N n root start u work out)
-    × (writeWork Y N n root t work ≡ writeWork Y N n root u work) × (writeOut Y N n root start t work out ≡ writeOut Y N n root start u work out))
-    (λ l. (refl, refl, refl)) (λ t u S. let (a, b, c) = write-links S root start work out in (sym (a ∙ same-write Y N n _), sym b, sym c)) t u A
+pub write-alike : (F : Form) (Y : Layout) (N n root start : ℕ) (t u work out : List ℕ) → Alike (size N n) t u
+    → (writeAnswer F Y N n root start t work out ≡ writeAnswer F Y N n root start u work out) × (writeWork F Y N n root t work ≡ writeWork F Y N n root u work)
+    × (writeOut F Y N n root start t work out ≡ writeOut F Y N n root start u work out)
+write-alike F Y N n root start t u work out A =
+    alike-links Y N n (λ t u. (writeAnswer F Y N n root start t work out ≡ writeAnswer F Y N n root start u work out)
+    × (writeWork F Y N n root t work ≡ writeWork F Y N n root u work) × (writeOut F Y N n root start t work out ≡ writeOut F Y N n root start u work out))
+    (λ l. (refl, refl, refl)) (λ t u S. let (a, b, c) = write-links S F root start work out in (sym (a ∙ same-write Y N n _), sym b, sym c)) t u A
 
 -- the report
-pub report-alike : (Y : Layout) (N n : ℕ) (t u work : List ℕ) → Alike (size N n) t u
-    → (reportAnswer Y N n t work ≡ reportAnswer Y N n u work) × (reportWork Y N n t work ≡ reportWork Y N n u work)
-report-alike Y N n t u work A =
-    alike-links Y N n (λ t u. (reportAnswer Y N n t work ≡ reportAnswer Y N n u work) × (reportWork Y N n t work ≡ reportWork Y N n u work))
-    (λ l. (refl, refl)) (λ t u S. let (a, b) = report-links S work in (sym (a ∙ same-report Y N n _), sym b)) t u A
+pub report-alike : (F : Form) (Y : Layout) (N n : ℕ) (t u work : List ℕ) → Alike (size N n) t u
+    → (reportAnswer F Y N n t work ≡ reportAnswer F Y N n u work) × (reportWork F Y N n t work ≡ reportWork F Y N n u work)
+report-alike F Y N n t u work A =
+    alike-links Y N n (λ t u. (reportAnswer F Y N n t work ≡ reportAnswer F Y N n u work) × (reportWork F Y N n t work ≡ reportWork F Y N n u work))
+    (λ l. (refl, refl)) (λ t u S. let (a, b) = report-links S F work in (sym (a ∙ same-report Y N n _), sym b)) t u A
 
 -- The reader: its tables go along with its walk, so a call on tables that are held otherwise is the call on the tables themselves, held so afterwards. What
 -- holds the links so is any f that casts: more entries behind, or places exchanged.
@@ -370,10 +384,16 @@ module _ {Z : Layout} {f : List ℕ → List ℕ} (w : Walk) (C : CastsOf w Z f)
   fault-cast j b Symbol.border hj = refl
   fault-cast j b (Symbol.index e) hj = rw (link-cast w C (v .shape) j e hj) (unfold cast in refl)
 
+  -- a body is begun alike
+  resuming-cast : (s : Step) → resuming (stepCast Z f s) ≡ stepCast Z f (resuming s)
+  unfolding resuming stepCast
+  resuming-cast (Step.goes w1 bs1) = ap (λ (x : Walk). Step.goes x bs1) (resume-cast Z f w1)
+  resuming-cast (Step.stops r) = refl
+
   -- a step of the reader is the same
   step-carried : step (cast Z f w) bs ≡ stepCast Z f (step w bs)
   unfolding step cast
-  step-carried = at (head w) refl
+  step-carried = ap resuming (at (head w) refl) ∙ resuming-cast (stepAt w bs (head w))
     where
       taken : (j b : ℕ) → Next w j b → (k : Taken) → stepTaken (cast Z f w) bs j b k ≡ stepCast Z f (stepTaken w bs j b k)
       taken j b n (Taken.short k) = unfold stepTaken stepCast runCast in refl
@@ -424,10 +444,10 @@ module _ {Z : Layout} {f : List ℕ → List ℕ} (w : Walk) (C : CastsOf w Z f)
 
   -- the tests at the walk's end are the same
   finish-cast : w .dim ≤ 6 → (rest : List Bool) → finish (cast Z f w) rest ≡ readingCast Z f (finish w rest)
-  unfolding finish manifold readingCast cast
+  unfolding finish bodiesFound manifold readingCast cast
   finish-cast h6 rest =
       rw (manifold-links (cast-same C (w .links) h) h6)
-      (test-cast (eqb (w .count) (w .darts)) 15 _ _
+      (test-cast (bodiesFound w) (endNumber (w .form)) _ _
       (test-cast (manifold w) 16 _ _
       (test-cast (eqb (value (take (length rest % 8) rest)) 0) 17 _ _
       (test-cast (eqb (length rest / 8) 0) 18 (Reading.complete w) (Reading.complete (cast Z f w)) refl))))
@@ -469,20 +489,23 @@ reading-carried {Y} {Z} {f} bits t C = go (leb 16 (length bits)) refl C
     n : ℕ
     n = headerDarts bits
 
-    from : Casts Y Z N n f → size N n ≤ length t → start Z N n (f t) ≡ cast Z f (start Y N n t)
+    F : Form
+    F = headerForm bits
+
+    from : Casts Y Z N n f → size N n ≤ length t → start F Z N n (f t) ≡ cast Z f (start F Y N n t)
     from C h = unfold start cast in rw (C .blanks t h)
 
     room : 16 ≤ length bits → dimFits N ≡ true → Casts Y Z N n f → (b : Bool) → leb (size N n) (length t) ≡ b
-        → begun Z true b N n (drop 16 bits) (f t) ≡ readingCast Z f (begun Y true b N n (drop 16 bits) t)
+        → begun F Z true b N n (drop 16 bits) (f t) ≡ readingCast Z f (begun F Y true b N n (drop 16 bits) t)
     room l q C false e = unfold begun readingCast in refl
     room l q C true e =
         let (lo, hi) = header-darts bits l in
-        let v = start-inv Y N n t lo hi (dim-fits N q .1) in
-        unfold begun in rw (from C (leb-true (size N n) (length t) e)) (settle-carried (start Y N n t) (drop 16 bits) (unfold start in C) v)
+        let v = start-inv F Y N n t lo hi (dim-fits N q .1) in
+        unfold begun in rw (from C (leb-true (size N n) (length t) e)) (settle-carried (start F Y N n t) (drop 16 bits) (unfold start in C) v)
 
     body : 16 ≤ length bits → (a : Bool) → dimFits N ≡ a → CastsFor Y Z f t (cond (true && a) (N, n) (0, 0))
-        → begun Z a (leb (size N n) (length (f t))) N n (drop 16 bits) (f t)
-        ≡ readingCast Z f (begun Y a (leb (size N n) (length t)) N n (drop 16 bits) t)
+        → begun F Z a (leb (size N n) (length (f t))) N n (drop 16 bits) (f t)
+        ≡ readingCast Z f (begun F Y a (leb (size N n) (length t)) N n (drop 16 bits) t)
     body l false q C = unfold begun readingCast in refl
     body l true q C = rw (C .long) (room l q (C .casts) (leb (size N n) (length t)) refl)
 
@@ -523,7 +546,7 @@ casts-reading {Y} {Z} {f} bits t C = go (readingOf Y bits t) (comes Y bits t)
   where
     settled-casts : (w : Walk) (bs : List Bool) (r : Reading) → Inv w → CastsOf w Z f → Settled w bs r → CastsHeld Z f r
     settled-casts w bs _ v K (Settled.runs x a) = unfold CastsHeld in casts-on (moves-grow (x .moves) v) K
-    settled-casts w bs _ v K (Settled.completes x o g) = unfold CastsHeld in tt
+    settled-casts w bs _ v K (Settled.completes x o c g) = unfold CastsHeld in tt
     settled-casts w bs _ v K (Settled.spoils nr i x s) = unfold CastsHeld spoiled in tt
 
     sized : (h : Accepted bits t) → headerSizes bits ≡ (headerDim bits, headerDarts bits)
@@ -534,7 +557,7 @@ casts-reading {Y} {Z} {f} bits t C = go (readingOf Y bits t) (comes Y bits t)
     go _ (Comes.unsized nr e) = unfold CastsHeld in tt
     go r (Comes.walks x s) =
         let D : CastsFor Y Z f t (headerDim bits, headerDarts bits) = rw (sized x) at C in
-        settled-casts (start Y (headerDim bits) (headerDarts bits) t) (drop 16 bits) r (header-inv Y bits t x) (unfold start in D .casts) s
+        settled-casts (start (headerForm bits) Y (headerDim bits) (headerDarts bits) t) (drop 16 bits) r (header-inv Y bits t x) (unfold start in D .casts) s
 
 -- a whole read is the same
 pub read-carried : {Y Z : Layout} {f : List ℕ → List ℕ} (bytes t : List ℕ) → CastsFor Y Z f t (headerSizes (unpack bytes))
@@ -556,9 +579,9 @@ walk-fits-links {Y} {Z} s t u S =
     entry X l k = entryFits s (k / s .darts) (k % s .darts) (link X (s .dim) (s .darts) l (k / s .darts) (k % s .darts))
 
 -- after a test that fails nothing counts
-cut-off : (x a b c d d' : Bool) → (x && false && a && b && c && d) ≡ (x && false && a && b && c && d')
-cut-off true a b c d d' = refl
-cut-off false a b c d d' = refl
+cut-off : (x a b c d e e' : Bool) → (x && false && a && b && c && d && e) ≡ (x && false && a && b && c && d && e')
+cut-off true a b c d e e' = refl
+cut-off false a b c d e e' = refl
 
 walk-fits-cast : {Y Z : Layout} {f : List ℕ → List ℕ} (s : Session) (t : List ℕ) → CastsFor Y Z f t (s .dim, s .darts) → walkFits Z s (f t) ≡ walkFits Y s t
 walk-fits-cast {Y} {Z} {f} s t C = go (leb (size (s .dim) (s .darts)) (length t)) refl
@@ -566,7 +589,8 @@ walk-fits-cast {Y} {Z} {f} s t C = go (leb (size (s .dim) (s .darts)) (length t)
     go : (b : Bool) → leb (size (s .dim) (s .darts)) (length t) ≡ b → walkFits Z s (f t) ≡ walkFits Y s t
     go true e = walk-fits-links s t (f t) (cast-same (C .casts) t (leb-true (size (s .dim) (s .darts)) (length t) e))
     go false e = unfold walkFits in rw (C .long, e)
-        (cut-off (dimFits (s .dim) && dartsFit (s .darts)) (leb 1 (s .count)) (leb (s .count) (s .darts)) (positionsFit s) _ _)
+        (cut-off (dimFits (s .dim) && dartsFit (s .darts)) (leb 1 (s .count)) (leb (s .count) (s .darts))
+        (bodiesFit (s .form) (s .bodies) (s .count)) (positionsFit s) _ _)
 
 -- whether the next step needs a symbol is the same
 asks-cast : {Z : Layout} {f : List ℕ → List ℕ} (w : Walk) → CastsOf w Z f → Inv w → asks (cast Z f w) (head w) ≡ asks w (head w)

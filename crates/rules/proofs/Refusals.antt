@@ -93,13 +93,13 @@ same-is true false e = absurd (not-both false e refl)
 same-is false false e = refl
 same-is false true e = absurd (not-both false e refl)
 
--- 11 to 18 and 21 to 23 wipe the tables
-pub wipes-exactly : (nr : ℕ) → wipes nr ≡ (between 11 18 nr || between 21 23 nr)
+-- 11 to 18, 21 to 23 and 30 wipe the tables
+pub wipes-exactly : (nr : ℕ) → wipes nr ≡ (between 11 18 nr || between 21 23 nr || eqb nr 30)
 unfolding wipes ofIndex inStep atEnd among between same
-wipes-exactly nr = go (decLt nr 24)
+wipes-exactly nr = go (decLt nr 31)
   where
-    go : Dec (nr < 24) → wipes nr ≡ (between 11 18 nr || between 21 23 nr)
-    go (yes l) = same-is _ _ (all-below 24 (λ k. same (wipes k) (between 11 18 k || between 21 23 k)) (unfold allBelow in refl) nr l)
+    go : Dec (nr < 31) → wipes nr ≡ (between 11 18 nr || between 21 23 nr || eqb nr 30)
+    go (yes l) = same-is _ _ (all-below 31 (λ k. same (wipes k) (between 11 18 k || between 21 23 k || eqb k 30)) (unfold allBelow in refl) nr l)
     go (no l) =
         rw (
           ne-eqb nr 11 (λ e. omega arith),
@@ -113,13 +113,14 @@ wipes-exactly nr = go (decLt nr 24)
           ne-eqb nr 21 (λ e. omega arith),
           ne-eqb nr 22 (λ e. omega arith),
           ne-eqb nr 23 (λ e. omega arith),
+          ne-eqb nr 30 (λ e. omega arith),
           le-leb 11 nr (omega arith),
           le-leb 21 nr (omega arith),
           lt-leb nr 18 (omega arith),
           lt-leb nr 23 (omega arith),
         )
 
--- a refused record is fit with 1 or 3 at place 0, with 11 to 18 and with 21 to 23, and with no other number
-pub fit-exactly : (nr p : ℕ) → fitRefused nr p ≡ (((eqb nr 1 || eqb nr 3) && eqb p 0) || (between 11 18 nr || between 21 23 nr))
+-- a refused record is fit with 1 or 3 at place 0, with 11 to 18, with 21 to 23 and with 30, and with no other number
+pub fit-exactly : (nr p : ℕ) → fitRefused nr p ≡ (((eqb nr 1 || eqb nr 3) && eqb p 0) || (between 11 18 nr || between 21 23 nr || eqb nr 30))
 unfolding fitRefused atHeader among
 fit-exactly nr p = rw (wipes-exactly nr, or-none)

@@ -12,6 +12,7 @@ use lib.Dec.{eqb}
 use borrow.Author.Tests.{eq-eqb, ne-eqb}
 use Rattle.rules.specs.declared.ReportAnswer.{ReportAnswer}
 use Rattle.rules.specs.Lists.{allBelow}
+use Rattle.rules.specs.declared.Form.the-variants.{One}
 use Rattle.rules.specs.Map.{Layout, byDart, size, place, link}
 use Rattle.rules.specs.Check.{Verdict, verdict}
 use Rattle.rules.specs.Report.{freePairs, differ, crosses, apart, someClasses, orientable, cellCounts, reportAnswerOf, reportAnswer}
@@ -42,7 +43,7 @@ formerAnswerOf Y N n t (Verdict.refused nr p) = record { number = nr; place = p;
 
 -- document 01's report
 unfoldable pub formerAnswer : (Y : Layout) → ℕ → ℕ → List ℕ → List ℕ → ReportAnswer
-formerAnswer Y N n t work = formerAnswerOf Y N n t (verdict Y N n 0 t (length work))
+formerAnswer Y N n t work = formerAnswerOf Y N n t (verdict One Y N n 0 t (length work))
 
 -- no dart is free at any rank: a closed model
 abbrev pub NoneFree : (Y : Layout) → ℕ → ℕ → List ℕ → Type 0
@@ -114,21 +115,21 @@ formerly r = record { number = r .number; place = r .place; cells = r .cells; fr
 
 module _ (Y : Layout) (N n : ℕ) (t work : List ℕ) where
   -- any tables: document 01's report is the present one, but for that
-  pub report-as-before : formerAnswer Y N n t work ≡ formerly (reportAnswer Y N n t work)
+  pub report-as-before : formerAnswer Y N n t work ≡ formerly (reportAnswer One Y N n t work)
   unfolding formerAnswer formerAnswerOf formerly reportAnswer reportAnswerOf
-  report-as-before = go (verdict Y N n 0 t (length work)) refl
+  report-as-before = go (verdict One Y N n 0 t (length work)) refl
     where
-      go : (v : Verdict) → verdict Y N n 0 t (length work) ≡ v → formerAnswerOf Y N n t v ≡ formerly (reportAnswerOf Y N n t v)
-      go Verdict.fine e = rw (former-exactly Y N n t (fine-passes Y N n 0 t (length work) e .limits .darts .0)) refl
+      go : (v : Verdict) → verdict One Y N n 0 t (length work) ≡ v → formerAnswerOf Y N n t v ≡ formerly (reportAnswerOf Y N n t v)
+      go Verdict.fine e = rw (former-exactly Y N n t (fine-passes One Y N n 0 t (length work) e .limits .darts .0)) refl
       go (Verdict.refused nr p) e = refl
 
   -- a closed model's report stays as it was
-  pub closed-as-before : NoneFree Y N n t → reportAnswer Y N n t work ≡ formerAnswer Y N n t work
+  pub closed-as-before : NoneFree Y N n t → reportAnswer One Y N n t work ≡ formerAnswer Y N n t work
   unfolding formerAnswer formerAnswerOf reportAnswer reportAnswerOf
-  closed-as-before F = go (verdict Y N n 0 t (length work)) refl
+  closed-as-before F = go (verdict One Y N n 0 t (length work)) refl
     where
-      go : (v : Verdict) → verdict Y N n 0 t (length work) ≡ v → reportAnswerOf Y N n t v ≡ formerAnswerOf Y N n t v
-      go Verdict.fine e = rw (closed-agree Y N n t (fine-passes Y N n 0 t (length work) e .limits .darts .0) F) refl
+      go : (v : Verdict) → verdict One Y N n 0 t (length work) ≡ v → reportAnswerOf Y N n t v ≡ formerAnswerOf Y N n t v
+      go Verdict.fine e = rw (closed-agree Y N n t (fine-passes One Y N n 0 t (length work) e .limits .darts .0) F) refl
       go (Verdict.refused nr p) e = refl
 
 -- one square, darts 2s and 2s+1 on side s: a0 and a1 are those of each square, a2 is given, dart by dart

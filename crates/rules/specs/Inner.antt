@@ -2,9 +2,13 @@
 use Prim.Native.Nat.{ℕ, suc, _≤_, _<_}
 use mathlib.Core.Path.{_≡_}
 use mathlib.Core.Logic.{_≢_}
-use mathlib.Core.Bool.{Bool, true}
+use mathlib.Core.Bool.{Bool, true, _&&_}
 use mathlib.Core.List.{List, [], _∷_}
 use lib.ListN.{length, getD}
+use lib.Dec.{ltb}
+use Rattle.rules.specs.declared.Form.{Form}
+use Rattle.rules.specs.declared.Form.the-variants.{One}
+use Rattle.rules.specs.Bodies.{several}
 use Rattle.rules.specs.Lists.{range}
 use Rattle.rules.specs.Map.{mark, size}
 use Rattle.rules.specs.Walk.{Walk, Head, head, linkOf, Partner, partner}
@@ -37,10 +41,17 @@ pub record Links (w : Walk) : Type 0 where
   pub far : (i d : ℕ) → i ≤ w .dim → d < w .darts → linkOf w i d ≢ mark → linkOf w i d < w .count
   pub behind : (i d : ℕ) → i ≤ w .dim → d < gone w i → linkOf w i d ≢ mark
 
+-- how many bodies are begun: at least one, no more than are numbered, and in the one-body form no other
+pub record Bodies (w : Walk) : Type 0 where
+  pub some : 1 ≤ w .bodies
+  pub few : w .bodies ≤ w .count
+  pub one : w .form ≡ One → w .bodies ≡ 1
+
 -- what holds of every walk that goes on from a fit session
 pub record Inv (w : Walk) : Type 0 where
   pub shape : Shape w
   pub links : Links w
+  pub bodies : Bodies w
 
 -- what waits is the start of one symbol that the next step needs
 pub record Asks (w : Walk) (bs : List Bool) : Type 0 where
@@ -59,6 +70,10 @@ pub record Lowest (N count : ℕ) (positions : List ℕ) (j : ℕ) : Type 0 wher
   pub ranked : j ≤ N
   pub lower : Emptied count positions j
   pub some : getD positions j 0 < count
+
+-- with the queues below Lj empty, the next body is due: j is past N, darts remain, and the form is several
+unfoldable pub bodyDue : Form → ℕ → ℕ → ℕ → ℕ → Bool
+bodyDue F N n j count = ltb N j && ltb count n && several F
 
 -- a list that picks one of each class: its entries are in the set, each of the set is in the class of some entry, two places of one class are one place
 pub record Picks (Set : ℕ → Type 0) (Same : ℕ → ℕ → Type 0) (l : List ℕ) : Type 0 where

@@ -23,7 +23,11 @@ inStep nr = ofIndex nr || among (13 ∷ 14 ∷ []) nr
 
 -- found at the walk's end
 unfoldable pub atEnd : ℕ → Bool
-atEnd nr = among (15 ∷ 16 ∷ 17 ∷ 18 ∷ []) nr
+atEnd nr = among (15 ∷ 30 ∷ 16 ∷ 17 ∷ 18 ∷ []) nr
+
+-- says that posted tables have too many bodies or too few: the work room is wiped
+unfoldable pub ofBodies : ℕ → Bool
+ofBodies nr = among (9 ∷ 30 ∷ []) nr
 
 -- wipes the tables, with the steps done as its place: closing too early, in a step, at the end; and 12, which no reading finds any more
 unfoldable pub wipes : ℕ → Bool
