@@ -1,7 +1,7 @@
 -- Document 02, E6: how the next body is begun. It keeps what holds of a walk and is no step, after it none is due, and in the one-body form none ever is.
 -- Rests on Lowest and Walks.
-use Prim.Native.Nat.{ℕ, suc, _≤_, _<_}
-use mathlib.Core.Path.{_≡_, refl, sym, _∙_}
+use Prim.Native.Nat.{ℕ, _<_}
+use mathlib.Core.Path.{_≡_, refl, _∙_}
 use mathlib.Core.Bool.{Bool, true, false, _&&_, cond}
 use native.Mathlib.Omega.{arith}
 use lib.ListN.{getD}
