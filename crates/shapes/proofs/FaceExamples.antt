@@ -5,9 +5,11 @@ use mathlib.Core.List.{List, [], _∷_, map}
 use Rattle.rules.specs.Lists.{span, range, listOf, allBelow, someBelow, countBelow, scan, first, number, sum}
 use Rattle.rules.specs.Map.{byDart, dimFits, dartsFit, place, link, blank, pairs, pairsFor, pairsOf, broken, firstBroken, allRanks, allBut}
 use Rattle.rules.specs.Map.{spread, within, reaches}
-use Rattle.rules.specs.Walk.{start, headFrom, tail, linkOf, unknown, deduce, partner, pass, join, fresh, tie, steps, apply, enough, symbolOf, named}
-use Rattle.rules.specs.Walk.{writeSymbol, writeWith, writeAt, writeStep, prepend, writeOn, write, walked, symbolsOf, namesOf}
-use Rattle.rules.specs.Check.{refuseIf, spot, outside, twisted, unreached, tablesVerdict, verdict, numbering, workAfter}
+use Rattle.rules.specs.Walk.{start, headFrom, tail, linkOf, unknown, deduce, partner, pass, join, fresh, isNone, due, oneMore, resume, tie, steps, apply}
+use Rattle.rules.specs.Walk.{enough, symbolOf, named, writeSymbol, writeWith, writeAt, leastUnnumbered, resumeNames, resumed, writeStep, prepend, writeOn, write, walked, symbolsOf, namesOf}
+use Rattle.rules.specs.Bodies as forms
+use Rattle.rules.specs.Refusals.{among, ofBodies}
+use Rattle.rules.specs.Check.{refuseIf, spot, outside, twisted, unreached, bodiesVerdict, tablesVerdict, verdict, numbering, workAfter}
 use Rattle.rules.specs.Exchange.{rankAt, dartAt}
 use Rattle.shapes.specs.declared.FacesAnswer.{FacesAnswer}
 use Rattle.shapes.specs.Text as text
@@ -76,9 +78,9 @@ examples =
 
 pub examples-right : map (λ (x : Example). facesAnswer byDart (x .text) lent room) examples ≡ map (λ (x : Example). x .answer) examples
 unfolding examples lent room span range listOf allBelow someBelow countBelow scan first number sum dimFits dartsFit place link blank pairs pairsFor pairsOf
-    broken firstBroken allRanks allBut spread within reaches start headFrom tail linkOf unknown deduce partner pass join fresh tie steps apply enough symbolOf
-    named writeSymbol writeWith writeAt writeStep prepend writeOn write walked symbolsOf namesOf refuseIf spot outside twisted unreached tablesVerdict verdict
-    numbering workAfter isBlank commented gap wordFrom wordEnd lineEnd next provided word keyword isDigit value text.number several face file some cornersTo
+    broken firstBroken allRanks allBut spread within reaches start headFrom tail linkOf unknown deduce partner pass join fresh isNone due oneMore resume tie steps apply enough
+    symbolOf named writeSymbol writeWith writeAt leastUnnumbered resumeNames resumed writeStep prepend writeOn write walked symbolsOf namesOf refuseIf spot outside twisted unreached bodiesVerdict
+    tablesVerdict verdict numbering workAfter among ofBodies isBlank commented gap wordFrom wordEnd lineEnd next provided word keyword isDigit value text.number several forms.several face file some cornersTo
     corners allCorners cornerAt alike large poor third facesVerdict dartsOf vertexOf cornerBefore cornerAfter twin linkFrom rankAt dartAt mapOn cornersOf
     readVerdict refusal facesAnswerOf tablesAfter facesAnswer facesTables facesWork
 examples-right = refl
@@ -94,9 +96,9 @@ pub two-rooms : (facesTables byDart two lent room
     × (facesWork byDart two lent room
     ≡ 0 ∷ 1 ∷ 4 ∷ 5 ∷ 3 ∷ 2 ∷ 6 ∷ 7 ∷ 10 ∷ 11 ∷ 9 ∷ 8 ∷ 0 ∷ 1 ∷ 5 ∷ 4 ∷ 2 ∷ 3 ∷ 6 ∷ 7 ∷ 11 ∷ 10 ∷ 8 ∷ 9 ∷ [])
 unfolding two lent room span range listOf allBelow someBelow countBelow scan first number sum dimFits dartsFit place link blank pairs pairsFor pairsOf
-    broken firstBroken allRanks allBut spread within reaches start headFrom tail linkOf unknown deduce partner pass join fresh tie steps apply enough symbolOf
-    named writeSymbol writeWith writeAt writeStep prepend writeOn write walked symbolsOf namesOf refuseIf spot outside twisted unreached tablesVerdict verdict
-    numbering workAfter isBlank commented gap wordFrom wordEnd lineEnd next provided word keyword isDigit value text.number several face file some cornersTo
+    broken firstBroken allRanks allBut spread within reaches start headFrom tail linkOf unknown deduce partner pass join fresh isNone due oneMore resume tie steps apply enough
+    symbolOf named writeSymbol writeWith writeAt leastUnnumbered resumeNames resumed writeStep prepend writeOn write walked symbolsOf namesOf refuseIf spot outside twisted unreached bodiesVerdict
+    tablesVerdict verdict numbering workAfter among ofBodies isBlank commented gap wordFrom wordEnd lineEnd next provided word keyword isDigit value text.number several forms.several face file some cornersTo
     corners allCorners cornerAt alike large poor third facesVerdict dartsOf vertexOf cornerBefore cornerAfter twin linkFrom rankAt dartAt mapOn cornersOf
     readVerdict refusal facesAnswerOf tablesAfter facesAnswer facesTables facesWork
 two-rooms = (refl, refl)

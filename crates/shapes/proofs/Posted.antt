@@ -10,6 +10,7 @@ use native.Mathlib.Decide.{ℕ-discrete, decLt, decLe}
 use lib.ListN.{length, getD}
 use lib.Dec.{ltb}
 use borrow.Author.Tests.{lt-leb, lt-ltb, le-ltb}
+use Rattle.rules.specs.declared.Form.the-variants.{One}
 use Rattle.rules.specs.Lists.{listOf}
 use Rattle.rules.specs.Map.{Layout, size, link, Reached, allRanks, allBut, Valid, Limits}
 use Rattle.rules.specs.Check.{Verdict, verdict}
@@ -32,7 +33,7 @@ use Rattle.shapes.proofs.FaceCases.{SameTwo, alike-same, same-alike, Fa
 use Rattle.shapes.proofs.FaceCases.{faces-decided, case-faces, Flawless, flawless-faces}
 
 -- of a valid map with room for it only 9 can hold of the check from root 0
-pub valid-case : (Y : Layout) (N n : ℕ) (t : List ℕ) (room : ℕ) → Limits N n t → 2 * n ≤ room → Valid Y N n t → {nr p : ℕ} → Case Y N n 0 t room nr p → nr ≡ 9
+pub valid-case : (Y : Layout) (N n : ℕ) (t : List ℕ) (room : ℕ) → Limits N n t → 2 * n ≤ room → Valid Y N n t → {nr p : ℕ} → Case One Y N n 0 t room nr p → nr ≡ 9
 valid-case Y N n t room L w v (Case.dims h) = absurd (h (L .dims))
 valid-case Y N n t room L w v (Case.darts h) = absurd (h (L .darts))
 valid-case Y N n t room L w v (Case.tables h) = absurd (omega (arith, L .room))
@@ -41,28 +42,29 @@ valid-case Y N n t room L w v (Case.rootless h) = absurd (omega (arith, L .darts
 valid-case Y N n t room L w v (Case.entry i d F) = absurd (first-refuted F (v .inside))
 valid-case Y N n t room L w v (Case.inverse i d F) = absurd (first-refuted F (v .inverse))
 valid-case Y N n t room L w v (Case.manifold k d F) = absurd (pair-breaks Y N n t k d (L .dims .1) F (v .manifold))
-valid-case Y N n t room L w v (Case.unreachable d M) = refl
+valid-case Y N n t room L w v (Case.unreachable o d M) = refl
+valid-case Y N n t room L w v (Case.alone o g) = let z : _≡_ {A = ℕ} 0 1 = cc in absurd (omega arith)
 
 -- so the check answers fine or 9
 pub valid-verdict : (Y : Layout) (N n : ℕ) (t : List ℕ) (room : ℕ) → Limits N n t → 2 * n ≤ room → Valid Y N n t
-    → (verdict Y N n 0 t room ≡ Verdict.fine) ⊎ ((d : ℕ) × (verdict Y N n 0 t room ≡ Verdict.refused 9 d))
-valid-verdict Y N n t room L w v = go (verdict Y N n 0 t room) refl
+    → (verdict One Y N n 0 t room ≡ Verdict.fine) ⊎ ((d : ℕ) × (verdict One Y N n 0 t room ≡ Verdict.refused 9 d))
+valid-verdict Y N n t room L w v = go (verdict One Y N n 0 t room) refl
   where
-    go : (r : Verdict) → verdict Y N n 0 t room ≡ r → (r ≡ Verdict.fine) ⊎ ((d : ℕ) × (r ≡ Verdict.refused 9 d))
+    go : (r : Verdict) → verdict One Y N n 0 t room ≡ r → (r ≡ Verdict.fine) ⊎ ((d : ℕ) × (r ≡ Verdict.refused 9 d))
     go Verdict.fine e = inl refl
     go (Verdict.refused nr p) e =
-        let c = refused-case Y N n 0 t room nr p e .0 in
+        let c = refused-case One Y N n 0 t room nr p e .0 in
         inr (p, ap (λ (k : ℕ). Verdict.refused k p) (valid-case Y N n t room L w v c))
 
 -- no case holds of what the check lets pass
-pub passes-case : (Y : Layout) (N n : ℕ) (t : List ℕ) (room : ℕ) → Passes Y N n 0 t room → {nr p : ℕ} → Case Y N n 0 t room nr p → ⊥
+pub passes-case : (Y : Layout) (N n : ℕ) (t : List ℕ) (room : ℕ) → Passes One Y N n 0 t room → {nr p : ℕ} → Case One Y N n 0 t room nr p → ⊥
 passes-case Y N n t room P {nr} {p} c =
-    let e = case-refused Y N n 0 t room nr p c (λ k q l c'. omega (arith, nine c', nine c)) in
-    let f = passes-fine Y N n 0 t room P in
+    let e = case-refused One Y N n 0 t room nr p c (λ k q l c'. omega (arith, nine c', nine c)) in
+    let f = passes-fine One Y N n 0 t room P in
     let z : _≡_ {A = ℕ} 0 1 = cc in
     absurd (omega arith)
   where
-    nine : {k q : ℕ} → Case Y N n 0 t room k q → k ≡ 9
+    nine : {k q : ℕ} → Case One Y N n 0 t room k q → k ≡ 9
     nine d = valid-case Y N n t room (P .limits) (P .work) (P .valid) d
 
 -- the tables stay as long as they were, whether they hold the map or not
@@ -107,12 +109,12 @@ pub record Accepted (Y : Layout) (text t : List ℕ) (room : ℕ) : Type 0 where
   pub after : ℕ
   pub reads : file text ≡ good made after
   pub spared : (nr p : ℕ) → PostCase Y text t room nr p → ⊥
-  pub passes : Passes Y 2 (dartsIn made) 0 (tablesIn Y made t) room
+  pub passes : Passes One Y 2 (dartsIn made) 0 (tablesIn Y made t) room
 
 module _ (Y : Layout) (text t : List ℕ) (room : ℕ) where
   -- the check's cases of a file's map
   abbrev MapCase : File → ℕ → ℕ → Type 0
-  MapCase m nr q = Case Y 2 (dartsIn m) 0 (tablesIn Y m t) room nr q
+  MapCase m nr q = Case One Y 2 (dartsIn m) 0 (tablesIn Y m t) room nr q
 
   -- a case of a text that is well formed is one of a face, or one of the check
   data Kind (m : File) (nr q : ℕ) : Type 0 where
@@ -132,7 +134,7 @@ module _ (Y : Layout) (text t : List ℕ) (room : ℕ) where
       let l : length t < 3 * dartsIn m = rw z at h in
       ofMap (Case.tables (omega (arith, on-length Y (cornersIn m) t))) (omega arith)
   kind-of m p e (work m' p' f h) = let z : m' ≡ m = cc in ofMap (Case.work (rw z at h)) (omega arith)
-  kind-of m p e (unreachable m' p' f d L) = let z : m' ≡ m = cc in ofMap (Case.unreachable d (rw z at L)) (omega arith)
+  kind-of m p e (unreachable m' p' f d L) = let z : m' ≡ m = cc in ofMap (Case.unreachable refl d (rw z at L)) (omega arith)
 
   -- where no case of a face holds nor 3 the faces are flawless and the tables hold the map, which is valid
   holds : (m : File) (p : ℕ) → file text ≡ good m p → ((nr k : ℕ) → FaceCase (m .vertices) (m .faces) nr k → ⊥) → (PostCase Y text t room 3 0 → ⊥)
@@ -164,7 +166,8 @@ module _ (Y : Layout) (text t : List ℕ) (room : ℕ) where
   as-post m p e clean (Case.inverse i d F) lower = absurd (first-refuted F (valid m p e clean (lower 3 0 (omega arith)) .inverse))
   as-post m p e clean (Case.manifold k d F) lower =
       absurd (pair-breaks Y 2 (dartsIn m) (tablesIn Y m t) k d (omega arith) F (valid m p e clean (lower 3 0 (omega arith)) .manifold))
-  as-post m p e clean (Case.unreachable d L) lower = unreachable m p e d L
+  as-post m p e clean (Case.unreachable o d L) lower = unreachable m p e d L
+  as-post m p e clean (Case.alone o g) lower = let z : _≡_ {A = ℕ} 0 1 = cc in absurd (omega arith)
 
   -- what a text comes to: the first case that holds refuses, or none holds and it is accepted
   data Decided : Type 0 where
@@ -203,17 +206,17 @@ module _ (Y : Layout) (text t : List ℕ) (room : ℕ) where
 
   -- the rest
   decided-map : (m : File) (p : ℕ) → file text ≡ good m p → ((nr k : ℕ) → FaceCase (m .vertices) (m .faces) nr k → ⊥) → (r : Verdict)
-      → verdict Y 2 (dartsIn m) 0 (tablesIn Y m t) room ≡ r → readVerdict Y (file text) t room ≡ r → Decided
+      → verdict One Y 2 (dartsIn m) 0 (tablesIn Y m t) room ≡ r → readVerdict Y (file text) t room ≡ r → Decided
   decided-map m p e clean Verdict.fine f q = accepts (record { made = m; after = p; reads = e; spared = λ nr k c. none (kind-of m p e c); passes = P }) q
     where
-      P : Passes Y 2 (dartsIn m) 0 (tablesIn Y m t) room
-      P = fine-passes Y 2 (dartsIn m) 0 (tablesIn Y m t) room f
+      P : Passes One Y 2 (dartsIn m) 0 (tablesIn Y m t) room
+      P = fine-passes One Y 2 (dartsIn m) 0 (tablesIn Y m t) room f
 
       none : {nr k : ℕ} → Kind m nr k → ⊥
       none {nr} {k} (ofFace c) = clean nr k c
       none (ofMap c l) = passes-case Y 2 (dartsIn m) (tablesIn Y m t) room P c
   decided-map m p e clean (Verdict.refused nr q) f v =
-      let (c, lower) = refused-case Y 2 (dartsIn m) 0 (tablesIn Y m t) room nr q f in
+      let (c, lower) = refused-case One Y 2 (dartsIn m) 0 (tablesIn Y m t) room nr q f in
       let x = as-post m p e clean c (λ nr' q' l d. none l lower (kind-of m p e d)) in
       refuses nr q x (λ nr' q' o d. prior (at-most (kind-of m p e x)) lower o (kind-of m p e d)) v
     where
@@ -243,7 +246,7 @@ module _ (Y : Layout) (text t : List ℕ) (room : ℕ) where
           rest : FacesDecided (m .vertices) (m .faces) → Decided
           rest (FacesDecided.found nr k c first q) = decided-face m p e nr k c first q
           rest (FacesDecided.none clean q) =
-              decided-map m p e clean (verdict Y 2 (dartsIn m) 0 (tablesIn Y m t) room) refl (ap (λ (r : Read File). readVerdict Y r t room) e ∙ q _)
+              decided-map m p e clean (verdict One Y 2 (dartsIn m) 0 (tablesIn Y m t) room) refl (ap (λ (r : Read File). readVerdict Y r t room) e ∙ q _)
 
   -- a refusal is given where its case holds and none prior to it
   pub post-case : (nr p : ℕ) → readVerdict Y (file text) t room ≡ Verdict.refused nr p
@@ -288,7 +291,7 @@ module _ (Y : Layout) (text t : List ℕ) (room : ℕ) where
 
       go : FacesDecided (m .vertices) (m .faces) → readVerdict Y (good m p) t room ≡ Verdict.refused nr q
       go (FacesDecided.found k x d first f) = absurd (none k x (faceFirst (case-number (m .vertices) (m .faces) d) top) (flawed m p e d))
-      go (FacesDecided.none clean f) = f _ ∙ case-refused Y 2 (dartsIn m) 0 (tablesIn Y m t) room nr q c (lower clean)
+      go (FacesDecided.none clean f) = f _ ∙ case-refused One Y 2 (dartsIn m) 0 (tablesIn Y m t) room nr q c (lower clean)
 
   pub case-post : (nr p : ℕ) → PostCase Y text t room nr p → ((nr' p' : ℕ) → Prior nr' p' nr p → PostCase Y text t room nr' p' → ⊥)
       → readVerdict Y (file text) t room ≡ Verdict.refused nr p

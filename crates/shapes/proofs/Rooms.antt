@@ -12,8 +12,10 @@ use lib.ListN.{length, take, drop}
 use lib.Seq.{take-append-le, take-all, drop-at}
 use lib.Dec.{eqb}
 use borrow.Author.Tests.{lt-leb, lt-ltb, ne-eqb}
+use Rattle.rules.specs.declared.Form.the-variants.{One}
 use Rattle.rules.specs.declared.CheckAnswer.{CheckAnswer}
 use Rattle.rules.specs.Map.{Layout, size, dimFits, dartsFit}
+use Rattle.rules.specs.Refusals.{among, ofBodies}
 use Rattle.rules.specs.Check.{Verdict, refuseIf, verdict, workAfter, checkAnswerOf, checkAnswer, checkWork}
 use Rattle.rules.proofs.Check.{refused-some}
 use Rattle.rules.proofs.Places.{Alike}
@@ -51,20 +53,20 @@ module _ (Y : Layout) (cs : List Corner) (t u : List ℕ) (same : length t ≡ l
           ∙ take-all (size 2 (dartsOf cs)) (laid Y 2 (dartsOf cs) (linkFrom cs)) (omega arith))
 
   -- and the check does not read what is past them
-  verdict-unread : (work : List ℕ) → verdict Y 2 (dartsOf cs) 0 (mapOn Y cs t) (length work) ≡ verdict Y 2 (dartsOf cs) 0 (mapOn Y cs u) (length work)
+  verdict-unread : (work : List ℕ) → verdict One Y 2 (dartsOf cs) 0 (mapOn Y cs t) (length work) ≡ verdict One Y 2 (dartsOf cs) 0 (mapOn Y cs u) (length work)
   unfolding checkAnswer verdict refuseIf dimFits
   verdict-unread work = go (decLe (size 2 (dartsOf cs)) (length t))
     where
       go : Dec (size 2 (dartsOf cs) ≤ length t)
-          → verdict Y 2 (dartsOf cs) 0 (mapOn Y cs t) (length work) ≡ verdict Y 2 (dartsOf cs) 0 (mapOn Y cs u) (length work)
+          → verdict One Y 2 (dartsOf cs) 0 (mapOn Y cs t) (length work) ≡ verdict One Y 2 (dartsOf cs) 0 (mapOn Y cs u) (length work)
       go (yes h) =
-          told _ _ (λ nr p e. refused-some Y 2 (dartsOf cs) 0 (mapOn Y cs t) (length work) nr p e)
-          (λ nr p e. refused-some Y 2 (dartsOf cs) 0 (mapOn Y cs u) (length work) nr p e)
-          (check-alike Y 2 (dartsOf cs) 0 (mapOn Y cs t) (mapOn Y cs u) work (front h) .0)
+          told _ _ (λ nr p e. refused-some One Y 2 (dartsOf cs) 0 (mapOn Y cs t) (length work) nr p e)
+          (λ nr p e. refused-some One Y 2 (dartsOf cs) 0 (mapOn Y cs u) (length work) nr p e)
+          (check-alike One Y 2 (dartsOf cs) 0 (mapOn Y cs t) (mapOn Y cs u) work (front h) .0)
       go (no h) = short (mapOn Y cs t) (omega (arith, on-length Y cs t)) ∙ sym (short (mapOn Y cs u) (omega (arith, on-length Y cs u)))
         where
           short : (v : List ℕ) → length v < size 2 (dartsOf cs)
-              → verdict Y 2 (dartsOf cs) 0 v (length work) ≡ refuseIf (not (dartsFit (dartsOf cs))) 2 0 (Verdict.refused 3 0)
+              → verdict One Y 2 (dartsOf cs) 0 v (length work) ≡ refuseIf (not (dartsFit (dartsOf cs))) 2 0 (Verdict.refused 3 0)
           short v l = rw (lt-ltb (length v) (size 2 (dartsOf cs)) l)
 
 -- the verdict of a text
@@ -75,7 +77,7 @@ read-unread Y (bad w) t u work x e h = refl
 read-unread Y (good m p) t u work x e h =
     let cs = allCorners 0 (m .faces) in
     ap (facesVerdict (m .vertices) cs 0 0 (m .faces))
-    (verdict-unread Y cs t u e work ∙ ap (verdict Y 2 (dartsOf cs) 0 (mapOn Y cs u)) h)
+    (verdict-unread Y cs t u e work ∙ ap (verdict One Y 2 (dartsOf cs) 0 (mapOn Y cs u)) h)
 
 -- the answer depends on the text and the lengths
 pub answer-unread : (Y : Layout) (text t u work x : List ℕ) → length t ≡ length u → length work ≡ length x
@@ -166,27 +168,33 @@ untold-darts Y text t work = go (readVerdict Y (file text) t (length work))
 pub others-leave : (Y : Layout) (text t work : List ℕ) → facesAnswer Y text t work .number ≢ 0 → facesAnswer Y text t work .number ≢ 9
     → (facesTables Y text t work ≡ t) × (facesWork Y text t work ≡ work)
 unfolding facesAnswer facesAnswerOf refusal facesTables tablesAfter facesWork workAfter
-others-leave Y text t work = go (readVerdict Y (file text) t (length work))
+others-leave Y text t work = go (readVerdict Y (file text) t (length work)) refl
   where
     cs : List Corner
     cs = cornersOf (file text)
 
-    go : (v : Verdict) → facesAnswerOf (dartsOf cs) v .number ≢ 0 → facesAnswerOf (dartsOf cs) v .number ≢ 9
-        → (tablesAfter Y cs t v ≡ t) × (workAfter Y 2 (dartsOf cs) 0 (mapOn Y cs t) work v ≡ work)
-    go Verdict.fine n m = absurd (n refl)
-    go (Verdict.refused nr p) n m = rw (ne-eqb nr 9 m) (refl, refl)
+    go : (v : Verdict) → readVerdict Y (file text) t (length work) ≡ v → facesAnswerOf (dartsOf cs) v .number ≢ 0 → facesAnswerOf (dartsOf cs) v .number ≢ 9
+        → (tablesAfter Y cs t v ≡ t) × (workAfter One Y 2 (dartsOf cs) 0 (mapOn Y cs t) work v ≡ work)
+    go Verdict.fine q n m = absurd (n refl)
+    go (Verdict.refused nr p) q n m = unfold ofBodies among in
+        rw (ne-eqb nr 9 m, ne-eqb nr 30 (λ z. far z (post-number Y text t (length work) (post-case Y text t (length work) nr p q .0)))) (refl, refl)
+      where
+        far : nr ≡ 30 → ((26 ≤ nr) × (nr ≤ 29)) ⊎ (((2 ≤ nr) × (nr ≤ 4)) ⊎ (nr ≡ 9)) → ⊥
+        far z (inl (a, b)) = omega arith
+        far z (inr (inl (a, b))) = omega arith
+        far z (inr (inr a)) = omega arith
 
 -- after 0 and 9 the tables hold the map, and number, place and work room are those of its check from root 0
 pub as-checked : (Y : Layout) (text t work : List ℕ) (m : File) (p : ℕ) → file text ≡ good m p
     → (facesAnswer Y text t work .number ≡ 0) ⊎ (facesAnswer Y text t work .number ≡ 9)
     → (facesTables Y text t work ≡ tablesIn Y m t)
-    × (checkAnswer Y 2 (dartsIn m) 0 (tablesIn Y m t) work ≡ record { number = facesAnswer Y text t work .number; place = facesAnswer Y text t work .place })
-    × (facesWork Y text t work ≡ checkWork Y 2 (dartsIn m) 0 (tablesIn Y m t) work)
+    × (checkAnswer One Y 2 (dartsIn m) 0 (tablesIn Y m t) work ≡ record { number = facesAnswer Y text t work .number; place = facesAnswer Y text t work .place })
+    × (facesWork Y text t work ≡ checkWork One Y 2 (dartsIn m) 0 (tablesIn Y m t) work)
 unfolding facesAnswer facesAnswerOf refusal facesTables tablesAfter facesWork readVerdict cornersOf checkAnswer checkAnswerOf checkWork
 as-checked Y text t work m p e o = rw e (go (faces-decided (m .vertices) (m .faces)) (rw e at o))
   where
     checked : Verdict
-    checked = verdict Y 2 (dartsIn m) 0 (tablesIn Y m t) (length work)
+    checked = verdict One Y 2 (dartsIn m) 0 (tablesIn Y m t) (length work)
 
     judged : Verdict
     judged = facesVerdict (m .vertices) (cornersIn m) 0 0 (m .faces) checked
@@ -201,7 +209,7 @@ as-checked Y text t work m p e o = rw e (go (faces-decided (m .vertices) (m .fac
     go : FacesDecided (m .vertices) (m .faces) → (facesAnswerOf (dartsIn m) judged .number ≡ 0) ⊎ (facesAnswerOf (dartsIn m) judged .number ≡ 9)
         → (tablesAfter Y (cornersIn m) t judged ≡ tablesIn Y m t)
         × (checkAnswerOf checked ≡ record { number = facesAnswerOf (dartsIn m) judged .number; place = facesAnswerOf (dartsIn m) judged .place })
-        × (workAfter Y 2 (dartsIn m) 0 (tablesIn Y m t) work judged ≡ workAfter Y 2 (dartsIn m) 0 (tablesIn Y m t) work checked)
+        × (workAfter One Y 2 (dartsIn m) 0 (tablesIn Y m t) work judged ≡ workAfter One Y 2 (dartsIn m) 0 (tablesIn Y m t) work checked)
     go (FacesDecided.found nr k c first q) o = absurd (far (rw (q checked) at o))
       where
         far : (nr ≡ 0) ⊎ (nr ≡ 9) → ⊥
@@ -209,5 +217,5 @@ as-checked Y text t work m p e o = rw e (go (faces-decided (m .vertices) (m .fac
         far (inr z) = omega (arith, case-number (m .vertices) (m .faces) c .0)
     go (FacesDecided.none clean q) o =
         let z = q checked in
-        let (x, y) = on checked (rw z at o) (λ nr p e. refused-some Y 2 (dartsIn m) 0 (tablesIn Y m t) (length work) nr p e) in
+        let (x, y) = on checked (rw z at o) (λ nr p e. refused-some One Y 2 (dartsIn m) 0 (tablesIn Y m t) (length work) nr p e) in
         rw z (x, y, refl)

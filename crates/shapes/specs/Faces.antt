@@ -6,6 +6,7 @@ use mathlib.Core.Bool.{Bool, false, not, _&&_, _||_, cond}
 use lib.ListN.{length, getD, drop}
 use lib.Dec.{eqb, ltb, leb}
 use Rattle.shapes.specs.declared.FacesAnswer.{FacesAnswer}
+use Rattle.rules.specs.declared.Form.the-variants.{One}
 use Rattle.rules.specs.Lists.{someBelow, countBelow, listOf, first}
 use Rattle.rules.specs.Map.{Layout, size}
 use Rattle.rules.specs.Exchange.{rankAt, dartAt}
@@ -114,7 +115,7 @@ unfoldable pub readVerdict : Layout → Read File → List ℕ → ℕ → Verdi
 readVerdict Y (bad w) t room = Verdict.refused 26 w
 readVerdict Y (good m p) t room =
     let cs = allCorners 0 (m .faces) in
-    facesVerdict (m .vertices) cs 0 0 (m .faces) (verdict Y 2 (dartsOf cs) 0 (mapOn Y cs t) room)
+    facesVerdict (m .vertices) cs 0 0 (m .faces) (verdict One Y 2 (dartsOf cs) 0 (mapOn Y cs t) room)
 
 -- a refusal's answer
 unfoldable pub refusal : ℕ → ℕ → FacesAnswer
@@ -140,4 +141,4 @@ facesTables Y text t work = let r = file text in tablesAfter Y (cornersOf r) t (
 
 -- the work room after it
 unfoldable pub facesWork : Layout → List ℕ → List ℕ → List ℕ → List ℕ
-facesWork Y text t work = let r = file text in workAfter Y 2 (dartsOf (cornersOf r)) 0 (mapOn Y (cornersOf r) t) work (readVerdict Y r t (length work))
+facesWork Y text t work = let r = file text in workAfter One Y 2 (dartsOf (cornersOf r)) 0 (mapOn Y (cornersOf r) t) work (readVerdict Y r t (length work))
