@@ -98,7 +98,7 @@ static void shorten(struct room *room, size_t size)
 #define LENGTH(name) (name##_room.size / sizeof *name)
 
 /* The form in which the calls on a posted map are made. */
-enum form { ONE_BODY, SEVERAL_BODIES };
+enum form { ONE_BODY, SEVERAL_BODIES, FORMS };
 static enum form form;
 
 static void begin(const char *name)
