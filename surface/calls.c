@@ -770,12 +770,16 @@ static const uint64_t bad_dims[BAD] = { 0, 7, 65536 + 1, WIDE, WIDE + 1, MOST };
 static const uint64_t bad_darts[BAD] = { 0, KZ_MAX_DARTS + 1, 65536 + 6, WIDE, WIDE + 6, MOST };
 static const uint64_t bad_roots[BAD] = { 6, 65535, 65536, WIDE, WIDE + 1, MOST };
 
-/* The three calls that take a map, refused alike. */
+/* The three calls that take a map, refused alike. Each gets a fresh work room: what one leaves there is not to be taken
+   for the next one's. */
 static void form_refuses(struct map m, uint64_t root, uint32_t number, uint32_t place)
 {
     LEND(out, 9);
+    LEND(work, LENGTH(work));
     EXPECT(call_check(m, root), number, place);
+    LEND(work, LENGTH(work));
     EXPECT(call_write(m, root, 0), number, place);
+    LEND(work, LENGTH(work));
     if (root == 0)
         EXPECT(call_report(m), number, place);
 }

@@ -687,14 +687,19 @@ fn fetch_after_each_byte(lent: &mut Lent) {
 
 // Posted maps: refusals.
 
-/// The three calls that take a map, refused alike.
+/// The three calls that take a map, refused alike. Each gets a fresh work room: what one leaves there is not to be
+/// taken for the next one's.
 #[track_caller]
 fn form_refuses(lent: &mut Lent, m: Map, root: usize, number: u32, place: usize) {
+    let room = lent.work.length();
     lent.out.lend(9);
+    lent.work.lend(room);
     let checked = lent.check(m, root);
     lent.expect(checked, refused(number, place));
+    lent.work.lend(room);
     let written = lent.write(m, root, 0);
     lent.expect(written, refused(number, place));
+    lent.work.lend(room);
     if root == 0 {
         let reported = lent.report(m);
         lent.expect(reported, refused(number, place));
