@@ -151,7 +151,8 @@ uint32_t kz_check_bodies(uint64_t dim, uint64_t darts, uint64_t root,
  * the same two vertices, each end to the one at the same vertex, and a side that has no such other is free.
  *
  * answer: number, place, n. On a refusal n is 0, on 9 too. The numbers have 64 bits: a text may be longer than 4 GiB.
- *         9 says that the faces are several bodies: the tables hold them all, for kz_check_bodies and kz_write_bodies.
+ *         9 says that the faces are several bodies: the tables hold them all, for kz_check_bodies and kz_write_bodies,
+ *         whose n is twice the number of corners.
  * Order of tests: 26 over the whole text; then face by face 27 (a vertex number not below the vertex count), 28 (fewer
  *         than three corners, or two neighbours with one vertex, last and first included), 29 (a side that two corners
  *         before have already); then 2 (no faces, or more than 4,096 darts, which are 2,048 corners), 3, 4, 9. 6, 7 and
@@ -230,8 +231,8 @@ uint32_t kz_read(const uint8_t *bytes, size_t bytes_length,
  *   [6] to [12]  how many darts have left each of the seven queues
  *   [13]  how many bits wait for the rest of a symbol (13 at most)       [14]  the number they write, first bit highest
  *   [15]  form: 0 one body, 1 several bodies       [16]  bodies begun so far
- * Form and bodies are 0 until a header is accepted and when refused; once it is, bodies are 1 and, in the form of
- * several bodies, one more as soon as all that is numbered has left the last queue and darts are left.
+ * Form and bodies are 0 until a header is accepted, and when refused. An accepted header begins the first body; in the
+ * form of several bodies the next one begins as soon as all queues are empty and darts are left, before any bit of it.
  * It has no pointers and may be stored and carried on later, by another process too, together with the tables.
  */
 void kz_open(uint32_t record[KZ_RECORD]);

@@ -252,7 +252,7 @@ static size_t compare_writes(struct posting p, size_t size)
     return length;
 }
 
-static unsigned long reads_by[NUMBERS];         /* how many of the reads compared were answered by each number */
+static unsigned long reads_by[NUMBERS];        /* how many of the reads compared were answered by each number */
 static unsigned long reads_of_bodies[NUMBERS]; /* and how many of those of several bodies */
 
 static void compare_read(const uint8_t *bytes, size_t length, size_t tables)
