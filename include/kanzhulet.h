@@ -11,7 +11,13 @@
  *   kz_read     tables from one whole stream
  *   kz_open, kz_page, kz_close      the same, fed page by page through a session
  *   kz_report   cells of each rank, free links, orientable or not
+ *   kz_check_bodies, kz_write_bodies, kz_report_bodies      the same for a map of several bodies
  *   kz_message  a refusal number in words
+ *
+ * A body is all that some dart reaches by links; a connected map is one body. A stream has one of two forms: that of
+ * one body, whose first four bits are N, for a connected map, and that of several bodies, whose first four bits are
+ * 8+N, for a map of two or more. Check, writer and report are calls of their own in each form; the calls that read take
+ * both, and a session's record tells which it is.
  *
  * Every call takes all values of its numbers and all contents of its rooms, ends, allocates nothing and keeps nothing
  * between calls. It returns the refusal number, 0 for an accepted call, and stores the whole answer in `answer`. What
@@ -39,7 +45,7 @@ extern "C" {
 #endif
 
 /* The library's version, as pkg-config and the Rust wrapper give it too. */
-#define KZ_VERSION "0.8.0"
+#define KZ_VERSION "0.9.0"
 
 /* The limits, and the rooms that are long enough for every map. */
 enum {
@@ -59,7 +65,7 @@ enum {
     KZ_READ_ANSWER = 5,
     KZ_PAGE_ANSWER = 6,
     KZ_REPORT_ANSWER = 11,
-    KZ_RECORD = 15
+    KZ_RECORD = 17
 };
 
 /*
@@ -96,7 +102,8 @@ enum {
     KZ_WORD = 26,         /* a word or number malformed or missing              its first byte, or the text's length */
     KZ_VERTEX = 27,       /* a vertex number too large                          the face's number, from 0 */
     KZ_FACE = 28,         /* under three corners, or two equal neighbours       the face's number, from 0 */
-    KZ_SIDE = 29          /* a side used a third time                           the face's number, from 0 */
+    KZ_SIDE = 29,         /* a side used a third time                           the face's number, from 0 */
+    KZ_ONE_BODY = 30      /* only one body in the form of several               steps done in a reading, else 0 */
 };
 
 /*
@@ -117,6 +124,19 @@ uint32_t kz_check(uint64_t dim, uint64_t darts, uint64_t root,
                   uint32_t answer[KZ_CHECK_ANSWER]);
 
 /*
+ * The same for a map of several bodies: are these tables a valid map of at least two? The first body is the one that
+ * the root is in; each next one begins at the least dart that has no walk number yet, and its darts are numbered on
+ * from those before.
+ *
+ * answer: number, place. Order of tests: 1 to 8 as kz_check, then 30 at 0 if there is one body only. 9 is never given.
+ * tables and work: as for kz_check, with 30 for 9.
+ */
+uint32_t kz_check_bodies(uint64_t dim, uint64_t darts, uint64_t root,
+                         const uint16_t *tables, size_t tables_length,
+                         uint16_t *work, size_t work_length,
+                         uint32_t answer[KZ_CHECK_ANSWER]);
+
+/*
  * Posting from a face file: an OFF text is read into the tables of a map of dimension 2, which is checked from root 0.
  *
  * The text is the word OFF; three numbers, how many vertices, faces and edges there are; for each vertex three words;
@@ -131,6 +151,8 @@ uint32_t kz_check(uint64_t dim, uint64_t darts, uint64_t root,
  * the same two vertices, each end to the one at the same vertex, and a side that has no such other is free.
  *
  * answer: number, place, n. On a refusal n is 0, on 9 too. The numbers have 64 bits: a text may be longer than 4 GiB.
+ *         9 says that the faces are several bodies: the tables hold them all, for kz_check_bodies and kz_write_bodies,
+ *         whose n is twice the number of corners.
  * Order of tests: 26 over the whole text; then face by face 27 (a vertex number not below the vertex count), 28 (fewer
  *         than three corners, or two neighbours with one vertex, last and first included), 29 (a side that two corners
  *         before have already); then 2 (no faces, or more than 4,096 darts, which are 2,048 corners), 3, 4, 9. 6, 7 and
@@ -168,16 +190,31 @@ uint32_t kz_write(uint64_t dim, uint64_t darts, uint64_t root, uint64_t start,
                   uint32_t answer[KZ_WRITE_ANSWER]);
 
 /*
- * One whole read: accepts exactly the streams that some valid connected map within the limits has from some root, and
- * builds that map under its walk numbering.
+ * The same for a map of several bodies, whose stream has the form of several bodies. Its walk is that of
+ * kz_check_bodies: it writes nothing where a body begins.
+ *
+ * answer: as kz_write. Order of tests: 1 to 8 and 30 as kz_check_bodies, then 10.
+ * tables, work and out: as for kz_write, with 30 for 9.
+ */
+uint32_t kz_write_bodies(uint64_t dim, uint64_t darts, uint64_t root, uint64_t start,
+                         const uint16_t *tables, size_t tables_length,
+                         uint16_t *work, size_t work_length,
+                         uint8_t *out, size_t out_length,
+                         uint32_t answer[KZ_WRITE_ANSWER]);
+
+/*
+ * One whole read: accepts exactly the streams that some valid map within the limits has from some root, a connected one
+ * in the form of one body and one of at least two bodies in the form of several, and builds that map under its walk
+ * numbering. The answer is of one kind for both forms; the first bit of the stream tells them apart.
  *
  * answer: number, place, steps done, N, n. On a refusal steps is the place, N and n are 0.
- * Order of tests: 1 and 3 once both header bytes are there; then by step 11, 13, 14, and for a dart that the stream
- * names 21, 22, 23; at the end 15, 16, 17, 18. 12 is never given.
+ * Order of tests: 1 and 3 once both header bytes are there, 1 if the first four bits are 0, 7, 8 or 15; then by step
+ * 11, 13, 14, and for a dart that the stream names 21, 22, 23; at the end 15, or 30 in the form of several bodies, then
+ * 16, 17, 18. 12 is never given.
  * tables: any length; 3 if it is less than the (N+1)*n of the stream's header. What is past (N+1)*n is not written.
  *   0        the first (N+1)*n are the map's
  *   1, 3, and 11 before both header bytes are there    unchanged
- *   11 after that, 13 to 18 and 21 to 23               the first (N+1)*n are KZ_NO_LINK
+ *   11 after that, 13 to 18, 21 to 23 and 30           the first (N+1)*n are KZ_NO_LINK
  */
 uint32_t kz_read(const uint8_t *bytes, size_t bytes_length,
                  uint16_t *tables, size_t tables_length,
@@ -187,12 +224,15 @@ uint32_t kz_read(const uint8_t *bytes, size_t bytes_length,
  * A session reads one stream by pages of any sizes, none of them kept by the library. The caller lends the same record
  * and the same tables to each call and writes neither in between: open, any number of pages, close.
  *
- * The record is fifteen numbers:
+ * The record is seventeen numbers:
  *   [0]  state: 0 header, 1 running, 2 complete, 3 closed, 4 refused
  *   [1]  the refusal's number if refused, else 0       [2]  its place if refused, else 0
  *   [3]  N        [4]  n        [5]  darts numbered so far
  *   [6] to [12]  how many darts have left each of the seven queues
  *   [13]  how many bits wait for the rest of a symbol (13 at most)       [14]  the number they write, first bit highest
+ *   [15]  form: 0 one body, 1 several bodies       [16]  bodies begun so far
+ * Form and bodies are 0 until a header is accepted, and when refused. An accepted header begins the first body; in the
+ * form of several bodies the next one begins as soon as all queues are empty and darts are left, before any bit of it.
  * It has no pointers and may be stored and carried on later, by another process too, together with the tables.
  */
 void kz_open(uint32_t record[KZ_RECORD]);
@@ -212,9 +252,10 @@ void kz_open(uint32_t record[KZ_RECORD]);
  *         with KZ_NO_LINK, then links are set.
  * record: after 19, 20 and a repeated refusal as given; after any other refusal state 4 with number and place, all else
  *         0.
- * 19 is answered for every record that no session stands for (another state, a number above 65,535 in [3] to [14], a
- * number or place where the state is not 4) and for every session that is not fit: numbers out of range, or tables that
- * are too short or do not go with the record.
+ * 19 is answered for every record that no session stands for (another state, a number above 65,535 in [3] to [14] or
+ * in [16], a form above 1, a number or place where the state is not 4) and for every session that is not fit: numbers
+ * out of range, form or bodies not 0 where the state is 0 or 4, or tables that are too short or do not go with the
+ * record.
  */
 uint32_t kz_page(uint32_t record[KZ_RECORD],
                  const uint8_t *bytes, size_t bytes_length,
@@ -250,6 +291,18 @@ uint32_t kz_report(uint64_t dim, uint64_t darts,
                    const uint16_t *tables, size_t tables_length,
                    uint16_t *work, size_t work_length,
                    uint32_t answer[KZ_REPORT_ANSWER]);
+
+/*
+ * The same for a map of several bodies: cells and free pairs are counted over all of them, and it is orientable if
+ * every one is.
+ *
+ * answer: as kz_report. Order of tests: 1 to 4, 6 to 8 and 30 as kz_check_bodies with root 0.
+ * tables and work: as for kz_report, with 30 for 9.
+ */
+uint32_t kz_report_bodies(uint64_t dim, uint64_t darts,
+                          const uint16_t *tables, size_t tables_length,
+                          uint16_t *work, size_t work_length,
+                          uint32_t answer[KZ_REPORT_ANSWER]);
 
 /*
  * A refusal number in words, and in brackets what the place is that goes with it: kz_message(11) is "the stream ended

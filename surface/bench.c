@@ -7,7 +7,8 @@
  *
  * One line a measurement:
  *
- *   CALL N n MAP ratio R           the time of the library's call over the reference's
+ *   CALL N n MAP ratio R           the time of the library's call over the reference's; a site, scattered or not, has
+ *                                  64 bodies, 8 where n is 64, and dust n of them, all in the form of several bodies
  *   faces 2 n TEXT ratio R         the same for a face file of n/2 corners; where n is above 4,096 it is refused by 2
  *   faces TEXT/spread G            the library's time for sides that fall into few slots over that for harmless ones
  *   cost CALL N MAP 4096/512 G     the library's cost of a step at n = 4,096 over that at 512, and the reference's
@@ -56,8 +57,8 @@ static void write_pages(const struct program *p, struct side *s, const struct jo
 {
     size_t start;
     for (start = 0; start < job->length; start += size)
-        p->write(job->m.dim, job->m.darts, 0, start, posted, job->entries, s->work, 2 * job->m.darts, s->out, size,
-                 s->answer);
+        p->write[form](job->m.dim, job->m.darts, 0, start, posted, job->entries, s->work, 2 * job->m.darts, s->out,
+                       size, s->answer);
 }
 
 static void read_pages(const struct program *p, struct side *s, const struct job *job, size_t size)
@@ -75,14 +76,14 @@ static void make_call(int call, const struct program *p, struct side *s, const s
 {
     uint64_t dim = job->m.dim, darts = job->m.darts;
     switch (call) {
-    case CHECK_MAP: p->check(dim, darts, 0, posted, job->entries, s->work, 2 * darts, s->answer); break;
+    case CHECK_MAP: p->check[form](dim, darts, 0, posted, job->entries, s->work, 2 * darts, s->answer); break;
     case WRITE:
-        p->write(dim, darts, 0, 0, posted, job->entries, s->work, 2 * darts, s->out, KZ_MAX_STREAM, s->answer);
+        p->write[form](dim, darts, 0, 0, posted, job->entries, s->work, 2 * darts, s->out, KZ_MAX_STREAM, s->answer);
         break;
     case WRITE_PAGES: write_pages(p, s, job, PAGE_SIZE); break;
     case READ: p->read(stream, job->length, s->tables, job->entries, s->answer); break;
     case READ_PAGES: read_pages(p, s, job, PAGE_SIZE); break;
-    case REPORT: p->report(dim, darts, posted, job->entries, s->work, 2 * darts, s->answer); break;
+    case REPORT: p->report[form](dim, darts, posted, job->entries, s->work, 2 * darts, s->answer); break;
     case FACES: p->faces(text, LENGTH(text), s->tables, 3 * KZ_MAX_DARTS, s->work, KZ_MAX_WORK, s->wide); break;
     }
 }
@@ -169,6 +170,7 @@ static void bench_kind(const struct kind *kind)
     for (size = 0; size < SIZES; size++) {
         compare_map(kind->name, kind->post(size), sizes[size] / 2 + 1, 1000, 200);
         compare_map(kind->name, kind->post(size), 0, PAGE_SIZE, SMALL_PAGE);
+        form = kind->form;
         job = post_job(kind, size);
         for (call = 0; call < CALLS; call++) {
             measure(call, &job, time);
@@ -184,6 +186,7 @@ static void bench_kind(const struct kind *kind)
                growth[LIBRARY], growth[REFERENCE]);
         against(growth[LIBRARY], most_growth);
     }
+    form = ONE_BODY;
 }
 
 /* Face files. */

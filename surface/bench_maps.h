@@ -1,6 +1,6 @@
 /*
  * The maps of the benchmark, each for 64, 512 and 4,096 darts: with many deductions (squares, cubes, products of
- * paths), with few (pairs) and with none (lines). They are posted as maps.h says.
+ * paths), with few (pairs) and with none (lines); and maps of several bodies. They are posted as maps.h says.
  */
 #ifndef SURFACE_BENCH_MAPS_H
 #define SURFACE_BENCH_MAPS_H
@@ -86,6 +86,20 @@ static struct map post_cubes(const uint64_t wide[3], uint64_t flats)
     return m;
 }
 
+/* The posted map so many times, side by side. */
+static struct map repeat(struct map body, uint64_t times)
+{
+    static uint16_t once[TABLES];
+    struct map m;
+    uint64_t k, entries = (body.dim + 1) * body.darts;
+    for (k = 0; k < entries; k++)
+        once[k] = posted[k];
+    m = post_free(body.dim, times * body.darts);
+    for (k = 0; k < times * entries; k++)
+        posted[k] = (uint16_t)(once[k % entries] + k / entries * body.darts);
+    return m;
+}
+
 static const uint64_t squares_wide[SIZES][2] = { { 4, 2 }, { 8, 8 }, { 32, 16 } };
 static const uint64_t cubes_wide[SIZES][3] = { { 1, 1, 1 }, { 5, 2, 1 }, { 7, 4, 3 } };
 static const uint64_t cubes_flats[SIZES] = { 1, 2, 4 };
@@ -100,15 +114,46 @@ static struct map product_of(int size) { return post_paths(product_lengths[size]
 static struct map pairs_of(int size) { return post_pairs(sizes[size]); }
 static struct map line_in_six(int size) { return post_line(6, sizes[size]); }
 
+/* Sites: 8 bodies of 8 darts, 64 of 8 and 64 of 64. In the scattered one neighbouring darts are of different bodies. */
+static const uint64_t bodies[SIZES] = { 8, 64, 64 };
+
+static struct map site_in_two(int size)
+{
+    return repeat(size < 2 ? post_squares(1) : post_grid(4, 2, 0), bodies[size]);
+}
+
+static struct map site_in_three(int size)
+{
+    return repeat(size < 2 ? post_line(3, 8) : post_cubes(cubes_wide[0], cubes_flats[0]), bodies[size]);
+}
+
+static struct map site_in_six(int size) { return repeat(post_pairs(size < 2 ? 8 : 64), bodies[size]); }
+static struct map scattered_site(int size) { return scatter(site_in_two(size), 37); }
+
+/* As many bodies as darts. */
+static struct map dust(int size) { return post_free(2, sizes[size]); }
+
 struct kind {
     const char *name;
     uint64_t dim;
     struct map (*post)(int size);
+    enum form form;
 };
 
 static const struct kind kinds[] = {
-    { "torus", 2, torus_of },      { "grid", 2, grid_of },       { "line", 2, line_in_two }, { "cubes", 3, cubes_of },
-    { "line", 3, line_in_three },  { "product", 6, product_of }, { "pairs", 6, pairs_of },   { "line", 6, line_in_six },
+    { "torus", 2, torus_of, ONE_BODY },
+    { "grid", 2, grid_of, ONE_BODY },
+    { "line", 2, line_in_two, ONE_BODY },
+    { "cubes", 3, cubes_of, ONE_BODY },
+    { "line", 3, line_in_three, ONE_BODY },
+    { "product", 6, product_of, ONE_BODY },
+    { "pairs", 6, pairs_of, ONE_BODY },
+    { "line", 6, line_in_six, ONE_BODY },
+    { "site", 2, site_in_two, SEVERAL_BODIES },
+    { "site", 3, site_in_three, SEVERAL_BODIES },
+    { "site", 6, site_in_six, SEVERAL_BODIES },
+    { "scattered", 2, scattered_site, SEVERAL_BODIES },
+    { "dust", 2, dust, SEVERAL_BODIES },
 };
 
 enum { KINDS = sizeof kinds / sizeof kinds[0] };

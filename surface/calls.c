@@ -49,8 +49,9 @@ static const struct reading readings[] = {
     /* The dimension, not before the second byte and before the room. */
     { "half a bad header", "70", 16, 11, 0, 0, 0 },
     { "dimension 0", "00 00", 0, 1, 0, 0, 0 },
-    { "dimension 9", "90 01 A0", 8, 1, 0, 0, 0 },
-    { "dimension 15", "FF FF FF", 8, 1, 0, 0, 0 },
+    { "dimension 0 of several bodies", "80 01 AA", 0, 1, 0, 0, 0 },
+    { "dimension 7 of several bodies", "FF FF FF", 8, 1, 0, 0, 0 },
+    { "half a bad header of several bodies", "80", 16, 11, 0, 0, 0 },
     /* Every dimension's lone dart; with four ranks the last symbol ends on a byte border and there is no fill. */
     { "lone dart in 2", "20 00 A8", 3, 0, 0, 2, 1 },
     { "lone dart in 3", "30 00 AA", 4, 0, 0, 3, 1 },
@@ -71,6 +72,31 @@ static const struct reading readings[] = {
     { "16 before 17", "30 07 45 41 80 3D 01", 32, 16, 32, 0, 0 },
     { "17 before 18", "10 00 A1 00", 2, 17, 2, 0, 0 },
     { "set bits after the end", "10 00 A0 FF", 2, 18, 2, 0, 0 },
+    /* Several bodies: each next one begins without a symbol, N in the answer is N. */
+    { "two lone darts", "90 01 AA", 4, 0, 0, 1, 2 },
+    { "two lone darts in 2", "A0 01 AA A0", 9, 0, 0, 2, 2 },
+    { "two lone darts in 6", "E0 01 AA AA AA A0", 14, 0, 0, 6, 2 },
+    { "two squares", "A0 0F 01 80 3D 50 0C 03 EA 80", 50, 0, 0, 2, 16 },
+    { "greatest header of several bodies", "EF FF", KZ_MAX_TABLES, 11, 0, 0, 0 },
+    { "greatest header of several bodies, short room", "EF FF", KZ_MAX_TABLES - 1, 3, 0, 0, 0 },
+    /* One body only: before 16, 17 and 18, and 15 is not given. */
+    { "one body", "90 00 A0", 2, 30, 2, 0, 0 },
+    { "P2 as several bodies", "90 01 50", 4, 30, 4, 0, 0 },
+    { "30 before 16", "B0 07 45 41 80 3D 00", 40, 30, 32, 0, 0 },
+    { "30 before 17", "90 00 A1 00", 2, 30, 2, 0, 0 },
+    { "30 before 18", "90 00 A0 00", 9, 30, 2, 0, 0 },
+    /* The second body has begun before its first bit, and the faults of its steps are those of any step. */
+    { "second body cut", "90 01", 4, 11, 0, 0, 0 },
+    { "third body cut", "90 02 AA", 6, 11, 4, 0, 0 },
+    { "new dart in the last body", "90 01 A0", 8, 13, 2, 0, 0 },
+    { "index of an earlier body", "90 02 AC 00 00", 6, 23, 2, 0, 0 },
+    { "index of the second body's root", "90 02 AC 00 40", 6, 22, 2, 0, 0 },
+    { "index of a body to come", "90 02 AC 00 80", 6, 21, 2, 0, 0 },
+    { "P10 after a lone dart", "A0 03 AA 8A 00", 12, 14, 11, 0, 0 },
+    { "16 in the first of two bodies", "B0 08 45 41 80 3D 55 00", 36, 16, 36, 0, 0 },
+    { "16 before 17, two bodies", "B0 08 45 41 80 3D 55 01", 36, 16, 36, 0, 0 },
+    { "last fill bit of two bodies", "A0 01 AA A1 00", 6, 17, 6, 0, 0 },
+    { "a byte after two bodies", "A0 01 AA A0 FF", 6, 18, 6, 0, 0 },
 };
 
 enum { READINGS = sizeof readings / sizeof readings[0] };
@@ -155,10 +181,12 @@ static void read_known_tables(void)
     static const uint16_t p1[2] = { 0, 0 };
     static const uint16_t p2[4] = { 1, 0, 0, 1 };
     static const uint16_t p3[12] = { 1, 2, 0, 4, 3, 0, 2, 5, 5, 1, 4, 3 };
-    begin("tables of P1 to P3");
+    static const uint16_t two_bodies[14] = { 1, 1, 0, 0, 3, 2, 2, 4, 5, 3, 4, 6, 6, 5 }; /* a loop and a chain */
+    begin("tables of P1 to P3, and of two bodies");
     expect_built("10 00 A0", 2, p1);
     expect_built("10 01 50", 4, p2);
     expect_built("10 05 06 00 A0", 12, p3);
+    expect_built("90 06 60 02 84", 14, two_bodies);
 }
 
 /* Reading: sessions. */
@@ -166,7 +194,7 @@ static void read_known_tables(void)
 static uint32_t away_record[KZ_RECORD];
 static uint16_t away_tables[TABLES];
 
-/* A session's fifteen numbers and its tables put away, another stream read in the same rooms, and both taken up again:
+/* A session's numbers and its tables put away, another stream read in the same rooms, and both taken up again:
    nothing else belongs to a session. */
 static void carry_elsewhere(void)
 {
@@ -268,10 +296,10 @@ static void give(const char *hex)
 /* Every step is done that needs no bit beyond those seen, no more and no less. */
 static void record_after_each_byte(void)
 {
-    static const uint32_t first[KZ_RECORD] = { 0, 0, 0, 0, 0, 0, 0, 0, 0, 0, 0, 0, 0, 8, 0x10 };
-    static const uint32_t header[KZ_RECORD] = { 1, 0, 0, 1, 4, 1, 0, 0, 0, 0, 0, 0, 0, 0, 0 };
-    static const uint32_t steps[KZ_RECORD] = { 1, 0, 0, 1, 4, 4, 4, 1, 0, 0, 0, 0, 0, 5, 0x18 };
-    static const uint32_t bits[KZ_RECORD] = { 1, 0, 0, 1, 4, 4, 4, 1, 0, 0, 0, 0, 0, 13, 0x1800 };
+    static const uint32_t first[KZ_RECORD] = { 0, 0, 0, 0, 0, 0, 0, 0, 0, 0, 0, 0, 0, 8, 0x10, 0, 0 };
+    static const uint32_t header[KZ_RECORD] = { 1, 0, 0, 1, 4, 1, 0, 0, 0, 0, 0, 0, 0, 0, 0, 0, 1 };
+    static const uint32_t steps[KZ_RECORD] = { 1, 0, 0, 1, 4, 4, 4, 1, 0, 0, 0, 0, 0, 5, 0x18, 0, 1 };
+    static const uint32_t bits[KZ_RECORD] = { 1, 0, 0, 1, 4, 4, 4, 1, 0, 0, 0, 0, 0, 13, 0x1800, 0, 1 };
     begin("record after each byte");
     open_in(8);
     give("10");
@@ -291,9 +319,60 @@ static void record_after_each_byte(void)
     EXPECT(give("00"), KZ_CUT, 5);
 }
 
+/* A body begins as soon as the one before has ended, before any bit of its own, and the record tells. Three lone darts,
+   then the same closed early. */
+static void bodies_after_each_byte(void)
+{
+    static const uint32_t first[KZ_RECORD] = { 0, 0, 0, 0, 0, 0, 0, 0, 0, 0, 0, 0, 0, 8, 0x90, 0, 0 };
+    static const uint32_t header[KZ_RECORD] = { 1, 0, 0, 1, 3, 1, 0, 0, 0, 0, 0, 0, 0, 0, 0, 1, 1 };
+    static const uint32_t third[KZ_RECORD] = { 1, 0, 0, 1, 3, 3, 2, 2, 0, 0, 0, 0, 0, 0, 0, 1, 3 };
+    static const uint32_t complete[KZ_RECORD] = { 2, 0, 0, 1, 3, 3, 3, 3, 0, 0, 0, 0, 0, 0, 0, 1, 3 };
+    static const uint32_t closed[KZ_RECORD] = { 3, 0, 0, 1, 3, 3, 3, 3, 0, 0, 0, 0, 0, 0, 0, 1, 3 };
+    static const uint32_t cut[KZ_RECORD] = { 4, 11, 4, 0, 0, 0, 0, 0, 0, 0, 0, 0, 0, 0, 0, 0, 0 };
+    begin("bodies after each byte");
+    open_in(6);
+    give("90");
+    expect_reading(0, 0, 0);
+    expect_record(first);
+    give("02");
+    expect_reading(0, 1, 3);
+    expect_record(header);
+    give("AA");
+    expect_reading(4, 1, 3);
+    expect_record(third);
+    give("A0");
+    expect_reading(6, 1, 3);
+    expect_record(complete);
+    call_close();
+    expect_reading(6, 1, 3);
+    expect_record(closed);
+    EXPECT(call_close(), KZ_CLOSED, 0);
+    open_in(6);
+    give("90 02 AA");
+    EXPECT(call_close(), KZ_CUT, 4);
+    expect_record(cut);
+}
+
+/* 30 is a session's refusal like any other: the record says it and nothing else, and it is repeated. */
+static void one_body_refuses_a_session(void)
+{
+    static const uint32_t refused[KZ_RECORD] = { 4, 30, 4, 0, 0, 0, 0, 0, 0, 0, 0, 0, 0, 0, 0, 0, 0 };
+    begin("one body in a session");
+    open_in(5);
+    give("90 01");
+    expect_reading(0, 1, 2);
+    EXPECT(give("50"), KZ_ONE_BODY, 4);
+    CHECK(no_link(built, 4) && KEPT_FROM(built, 4));
+    expect_record(refused);
+    EXPECT(give(""), KZ_ONE_BODY, 4);
+    EXPECT(give("10 01 50"), KZ_ONE_BODY, 4);
+    EXPECT(call_close(), KZ_ONE_BODY, 4);
+    expect_record(refused);
+}
+
 static void index_waits_for_its_last_bit(void)
 {
-    static const uint32_t waits[KZ_RECORD] = { 1, 0, 0, 1, 2, 1, 0, 0, 0, 0, 0, 0, 0, 8, 0xC1 };
+    static const uint32_t waits[KZ_RECORD] = { 1, 0, 0, 1, 2, 1, 0, 0, 0, 0, 0, 0, 0, 8, 0xC1, 0, 1 };
     begin("index waits");
     open_in(4);
     give("10 01 C1");
@@ -320,8 +399,8 @@ static void empty_page_changes_nothing(void)
 
 static void closed_once(void)
 {
-    static const uint32_t complete[KZ_RECORD] = { 2, 0, 0, 1, 2, 2, 2, 2, 0, 0, 0, 0, 0, 0, 0 };
-    static const uint32_t closed[KZ_RECORD] = { 3, 0, 0, 1, 2, 2, 2, 2, 0, 0, 0, 0, 0, 0, 0 };
+    static const uint32_t complete[KZ_RECORD] = { 2, 0, 0, 1, 2, 2, 2, 2, 0, 0, 0, 0, 0, 0, 0, 0, 1 };
+    static const uint32_t closed[KZ_RECORD] = { 3, 0, 0, 1, 2, 2, 2, 2, 0, 0, 0, 0, 0, 0, 0, 0, 1 };
     begin("closed once");
     open_in(4);
     give("10 01 50");
@@ -393,26 +472,47 @@ static const struct lent unfit[] = {
     { "refused by 25", { 4, 25, 0 }, 0, { 0 } },
     { "refused by 26", { 4, 26, 0 }, 0, { 0 } },
     { "refused by 29", { 4, 29, 0 }, 0, { 0 } },
-    { "running in dimension 0", { 1, 0, 0, 0, 2, 1 }, 4, { NO, NO, NO, NO } },
-    { "running in dimension 7", { 1, 0, 0, 7, 2, 1 }, 4, { NO, NO, NO, NO } },
-    { "running without darts", { 1, 0, 0, 1, 0, 1 }, 4, { NO, NO, NO, NO } },
-    { "running with 4097 darts", { 1, 0, 0, 1, 4097, 1 }, 4, { NO, NO, NO, NO } },
-    { "running, short tables", { 1, 0, 0, 1, 2, 1 }, 3, { NO, NO, NO } },
-    { "count 0", { 1, 0, 0, 1, 2, 0 }, 4, { NO, NO, NO, NO } },
-    { "count above n", { 1, 0, 0, 1, 2, 3 }, 4, { NO, NO, NO, NO } },
-    { "position above count", { 1, 0, 0, 1, 2, 1, 2 }, 4, { 0, NO, 0, NO } },
-    { "rising positions", { 1, 0, 0, 1, 2, 2, 1, 2 }, 4, { 1, 1, 0, 0 } },
-    { "position past N", { 1, 0, 0, 1, 2, 2, 2, 1, 1 }, 4, { 1, 0, 0, NO } },
-    { "entry not below count", { 1, 0, 0, 1, 2, 1, 1, 0 }, 4, { 1, NO, NO, NO } },
-    { "entry missing behind a position", { 1, 0, 0, 1, 2, 2, 1, 0 }, 4, { NO, NO, NO, NO } },
-    { "tables by rank", { 1, 0, 0, 1, 2, 2, 2, 0 }, 4, { 1, 0, NO, NO } },
-    { "entry of a dart without number", { 1, 0, 0, 1, 2, 1, 0 }, 4, { NO, NO, 0, NO } },
-    { "next step known", { 1, 0, 0, 1, 2, 2, 1, 0 }, 4, { 1, NO, 0, NO } },
-    { "14 waiting bits", { 1, 0, 0, 1, 2, 1, 0, 0, 0, 0, 0, 0, 0, 14, 0x3000 }, 4, { NO, NO, NO, NO } },
-    { "waiting bits of a whole symbol", { 1, 0, 0, 1, 2, 1, 0, 0, 0, 0, 0, 0, 0, 2, 2 }, 4, { NO, NO, NO, NO } },
-    { "complete with a step left", { 2, 0, 0, 1, 2, 2, 2, 1 }, 4, { 1, 0, 0, NO } },
-    { "complete without its tables", { 2, 0, 0, 1, 2, 2, 2, 2 }, 4, { 1, NO, 0, NO } },
-    { "complete with waiting bits", { 2, 0, 0, 1, 2, 2, 2, 2, 0, 0, 0, 0, 0, 1, 1 }, 4, { 1, 0, 0, 1 } },
+    { "refused by 31", { 4, 31, 0 }, 0, { 0 } },
+    { "form 2 of a header", { 0, [15] = 2 }, 0, { 0 } },
+    { "form 2 when closed", { 3, [15] = 2 }, 0, { 0 } },
+    { "greatest form when closed", { 3, [15] = 0xFFFFFFFF }, 0, { 0 } },
+    { "form 2 when refused", { 4, 11, [15] = 2 }, 0, { 0 } },
+    { "65536 bodies when closed", { 3, [16] = 65536 }, 0, { 0 } },
+    { "header with a form", { 0, [15] = 1 }, 0, { 0 } },
+    { "header with a body", { 0, [16] = 1 }, 0, { 0 } },
+    { "header with form and body", { 0, [13] = 8, [14] = 0x90, [15] = 1, [16] = 1 }, 0, { 0 } },
+    { "refused with a form", { 4, 11, [15] = 1 }, 0, { 0 } },
+    { "refused with a body", { 4, 11, [16] = 1 }, 0, { 0 } },
+    { "refused by 30 with form and bodies", { 4, 30, 4, [15] = 1, [16] = 1 }, 0, { 0 } },
+    { "running in dimension 0", { 1, 0, 0, 0, 2, 1, [16] = 1 }, 4, { NO, NO, NO, NO } },
+    { "running in dimension 7", { 1, 0, 0, 7, 2, 1, [16] = 1 }, 4, { NO, NO, NO, NO } },
+    { "running without darts", { 1, 0, 0, 1, 0, 1, [16] = 1 }, 4, { NO, NO, NO, NO } },
+    { "running with 4097 darts", { 1, 0, 0, 1, 4097, 1, [16] = 1 }, 4, { NO, NO, NO, NO } },
+    { "running, short tables", { 1, 0, 0, 1, 2, 1, [16] = 1 }, 3, { NO, NO, NO } },
+    { "count 0", { 1, 0, 0, 1, 2, 0, [16] = 1 }, 4, { NO, NO, NO, NO } },
+    { "count above n", { 1, 0, 0, 1, 2, 3, [16] = 1 }, 4, { NO, NO, NO, NO } },
+    { "position above count", { 1, 0, 0, 1, 2, 1, 2, [16] = 1 }, 4, { 0, NO, 0, NO } },
+    { "rising positions", { 1, 0, 0, 1, 2, 2, 1, 2, [16] = 1 }, 4, { 1, 1, 0, 0 } },
+    { "position past N", { 1, 0, 0, 1, 2, 2, 2, 1, 1, [16] = 1 }, 4, { 1, 0, 0, NO } },
+    { "entry not below count", { 1, 0, 0, 1, 2, 1, 1, 0, [16] = 1 }, 4, { 1, NO, NO, NO } },
+    { "entry missing behind a position", { 1, 0, 0, 1, 2, 2, 1, 0, [16] = 1 }, 4, { NO, NO, NO, NO } },
+    { "tables by rank", { 1, 0, 0, 1, 2, 2, 2, 0, [16] = 1 }, 4, { 1, 0, NO, NO } },
+    { "entry of a dart without number", { 1, 0, 0, 1, 2, 1, 0, [16] = 1 }, 4, { NO, NO, 0, NO } },
+    { "next step known", { 1, 0, 0, 1, 2, 2, 1, 0, [16] = 1 }, 4, { 1, NO, 0, NO } },
+    { "14 waiting bits", { 1, 0, 0, 1, 2, 1, [13] = 14, 0x3000, [16] = 1 }, 4, { NO, NO, NO, NO } },
+    { "waiting bits of a whole symbol", { 1, 0, 0, 1, 2, 1, [13] = 2, 2, [16] = 1 }, 4, { NO, NO, NO, NO } },
+    { "complete with a step left", { 2, 0, 0, 1, 2, 2, 2, 1, [16] = 1 }, 4, { 1, 0, 0, NO } },
+    { "complete without its tables", { 2, 0, 0, 1, 2, 2, 2, 2, [16] = 1 }, 4, { 1, NO, 0, NO } },
+    { "running without a body", { 1, 0, 0, 1, 2, 1 }, 4, { NO, NO, NO, NO } },
+    { "running in form 2", { 1, 0, 0, 1, 2, 1, [15] = 2, [16] = 1 }, 4, { NO, NO, NO, NO } },
+    { "several bodies without a body", { 1, 0, 0, 1, 2, 1, [15] = 1 }, 4, { NO, NO, NO, NO } },
+    { "more bodies than darts numbered", { 1, 0, 0, 1, 2, 1, [15] = 1, [16] = 2 }, 4, { NO, NO, NO, NO } },
+    { "two bodies in the form of one", { 1, 0, 0, 1, 2, 2, 1, 1, [16] = 2 }, 4, { 0, 0, NO, NO } },
+    { "a body that has not begun", { 1, 0, 0, 1, 2, 1, 1, 1, [15] = 1, [16] = 1 }, 4, { 0, 0, NO, NO } },
+    { "complete without a body", { 2, 0, 0, 1, 2, 2, 2, 2 }, 4, { 0, 0, 1, 1 } },
+    { "complete, two bodies in the form of one", { 2, 0, 0, 1, 2, 2, 2, 2, [16] = 2 }, 4, { 0, 0, 1, 1 } },
+    { "complete, three bodies of two darts", { 2, 0, 0, 1, 2, 2, 2, 2, [15] = 1, [16] = 3 }, 4, { 0, 0, 1, 1 } },
+    { "complete with waiting bits", { 2, 0, 0, 1, 2, 2, 2, 2, [13] = 1, 1, [16] = 1 }, 4, { 1, 0, 0, 1 } },
 };
 
 static void unfit_records_are_left(void)
@@ -427,19 +527,20 @@ static void unfit_records_are_left(void)
     }
 }
 
-/* Fit is asked of a refused record only in its number and place, and of a closed one nothing but sixteen bits. */
+/* Fit is asked of a refused record only in its number and place, form and bodies, and of a closed one nothing but
+   sixteen bits and a form. */
 static void lent_refusals_and_closed_records(void)
 {
-    static const uint32_t refused[KZ_RECORD] = { 4, 11, 4000000000u, 9, 8, 7, 6, 5, 4, 3, 2, 1, 0, 65535, 65535 };
-    static const uint32_t closed[KZ_RECORD] = { 3, 0, 0, 9, 65535, 65535, 1, 2, 3, 4, 5, 6, 7, 65535, 65535 };
+    static const uint32_t refused[KZ_RECORD] = { 4, 11, 4000000000u, 9, 8, 7, 6, 5, 4, 3, 2, 1, 0, 65535, 65535, 0, 0 };
+    static const uint32_t closed[KZ_RECORD] = { 3, 0, 0, 9, 65535, 65535, 1, 2, 3, 4, 5, 6, 7, 65535, 65535, 1, 65535 };
     static const uint16_t tables[4] = { 7, 7, 7, 7 };
     uint32_t numbers[KZ_RECORD] = { 4 };
     begin("lent refusals");
     lend_record(refused, 4, tables);
     EXPECT(give("10 01 50"), KZ_CUT, 4000000000u);
     EXPECT(call_close(), KZ_CUT, 4000000000u);
-    for (numbers[1] = KZ_CUT; numbers[1] <= KZ_LINKED; numbers[1]++) {
-        if (numbers[1] == KZ_UNFIT || numbers[1] == KZ_CLOSED)
+    for (numbers[1] = KZ_CUT; numbers[1] <= KZ_ONE_BODY; numbers[1]++) {
+        if (!is_found(numbers[1]) && numbers[1] != KZ_INDEX)
             continue;
         numbers[2] = 3 * numbers[1];
         lend_record(numbers, 4, tables);
@@ -467,13 +568,89 @@ static void expect_goes_on(const uint32_t *numbers, const uint16_t *tables, cons
    end could test. */
 static void lent_session_goes_on(void)
 {
-    static const uint32_t rank_done[KZ_RECORD] = { 1, 0, 0, 1, 2, 2, 2, 0 };
-    static const uint32_t one_left[KZ_RECORD] = { 1, 0, 0, 1, 2, 2, 2, 1 };
+    static const uint32_t rank_done[KZ_RECORD] = { 1, 0, 0, 1, 2, 2, 2, 0, [16] = 1 };
+    static const uint32_t one_left[KZ_RECORD] = { 1, 0, 0, 1, 2, 2, 2, 1, [16] = 1 };
     static const uint16_t of_a_reading[2][4] = { { 1, NO, 0, NO }, { 1, 0, 0, 1 } };
     static const uint16_t of_none[2][4] = { { 0, 0, 0, NO }, { 0, 0, 0, 1 } };
     begin("lent session goes on");
     expect_goes_on(rank_done, of_a_reading[0], "A0", of_a_reading[1]);
     expect_goes_on(one_left, of_none[0], "80", of_none[1]);
+}
+
+/* What a session of several bodies is found to have at its end goes by the count that it was lent with, 1 to the darts
+   numbered: a complete one is closed with any, and one that runs to its end with 1 is refused by 30. */
+static void lent_bodies_go_on(void)
+{
+    static const uint16_t tables[4] = { 0, 0, 1, NO }, done[4] = { 0, 0, 1, 1 };
+    uint32_t running[KZ_RECORD] = { 1, 0, 0, 1, 2, 2, 2, 1, [15] = 1 };
+    uint32_t complete[KZ_RECORD] = { 2, 0, 0, 1, 2, 2, 2, 2, [15] = 1 };
+    begin("lent bodies go on");
+    running[16] = 2;
+    expect_goes_on(running, tables, "80", done);
+    CHECK(record[15] == 1 && record[16] == 2);
+    running[16] = 1;
+    lend_record(running, 4, tables);
+    EXPECT(give("80"), KZ_ONE_BODY, 4);
+    for (complete[16] = 1; complete[16] <= 2; complete[16]++) {
+        expect_goes_on(complete, done, "", done);
+        CHECK(record[15] == 1 && record[16] == complete[16]);
+    }
+}
+
+/* Form and bodies that the record at hand may not have. */
+static void expect_unfit_with(uint32_t lent_form, uint32_t bodies)
+{
+    const uint32_t had_form = record[15], had_bodies = record[16];
+    record[15] = lent_form;
+    record[16] = bodies;
+    EXPECT(give("00"), KZ_UNFIT, 0);
+    EXPECT(call_close(), KZ_UNFIT, 0);
+    record[15] = had_form;
+    record[16] = had_bodies;
+}
+
+/* The session at hand, in the form of several bodies if it has one: with another form, and with each kind of number
+   of bodies that it may not have. Every number of them from 1 to the darts numbered is fit. */
+static void spoil_bodies(void)
+{
+    const int walks = record[0] == 1 || record[0] == 2; /* or else form and bodies are 0 */
+    const uint32_t bodies = record[16];
+    uint32_t k;
+    expect_unfit_with(2, bodies);
+    expect_unfit_with(0xFFFFFFFF, bodies);
+    expect_unfit_with(walks, 65536);
+    expect_unfit_with(walks, record[5] + 1);
+    expect_unfit_with(!walks, walks ? 2 : 0);
+    expect_unfit_with(1, !walks);
+    for (k = 1; walks && k <= record[5]; k++) {
+        record[16] = k;
+        EXPECT(give(""), 0, 0);
+    }
+    record[16] = bodies;
+}
+
+/* Two squares and two lone darts, by small pages: after each the session is spoiled in form and bodies, and then goes
+   on as if it had not been; so is it when it is refused. A closed one has any number of bodies, of 16 bits. */
+static void wrong_forms_and_bodies(void)
+{
+    static const char *const pages[] = { "", "A0", "11", "01 80 3D", "50", "0C", "03", "EA", "AA", "A8" };
+    size_t k;
+    begin("wrong forms and bodies");
+    open_in(60);
+    for (k = 0; k < sizeof pages / sizeof pages[0]; k++) {
+        EXPECT(give(pages[k]), 0, 0);
+        spoil_bodies();
+    }
+    CHECK(record[0] == 2 && record[15] == 1 && record[16] == 4);
+    EXPECT(give("00"), KZ_BYTE_AFTER, 54);
+    spoil_bodies();
+    open_in(60);
+    EXPECT(give("90 01 AA"), 0, 0);
+    EXPECT(call_close(), 0, 0);
+    record[16] = 65535;
+    EXPECT(call_close(), KZ_CLOSED, 0);
+    expect_unfit_with(2, 2);
+    expect_unfit_with(1, 65536);
 }
 
 /* How much to fetch. */
@@ -483,7 +660,7 @@ static void lent_session_goes_on(void)
 static void lend_waiting(uint32_t bits)
 {
     static const uint16_t tables[4] = { NO, NO, NO, NO };
-    uint32_t numbers[KZ_RECORD] = { 1, 0, 0, 1, 2, 1 };
+    uint32_t numbers[KZ_RECORD] = { 1, 0, 0, 1, 2, 1, [16] = 1 };
     numbers[13] = bits;
     numbers[14] = 0x3000u >> (14 - bits);
     lend_record(numbers, 4, tables);
@@ -593,14 +770,27 @@ static const uint64_t bad_dims[BAD] = { 0, 7, 65536 + 1, WIDE, WIDE + 1, MOST };
 static const uint64_t bad_darts[BAD] = { 0, KZ_MAX_DARTS + 1, 65536 + 6, WIDE, WIDE + 6, MOST };
 static const uint64_t bad_roots[BAD] = { 6, 65535, 65536, WIDE, WIDE + 1, MOST };
 
-/* The three calls that take a map, refused alike. */
-static void all_refuse(struct map m, uint64_t root, uint32_t number, uint32_t place)
+/* The three calls that take a map, refused alike. Each gets a fresh work room: what one leaves there is not to be taken
+   for the next one's. */
+static void form_refuses(struct map m, uint64_t root, uint32_t number, uint32_t place)
 {
     LEND(out, 9);
+    LEND(work, LENGTH(work));
     EXPECT(call_check(m, root), number, place);
+    LEND(work, LENGTH(work));
     EXPECT(call_write(m, root, 0), number, place);
+    LEND(work, LENGTH(work));
     if (root == 0)
         EXPECT(call_report(m), number, place);
+}
+
+/* The same in both forms, by a number that both have. */
+static void all_refuse(struct map m, uint64_t root, uint32_t number, uint32_t place)
+{
+    form_refuses(m, root, number, place);
+    form = SEVERAL_BODIES;
+    form_refuses(m, root, number, place);
+    form = ONE_BODY;
 }
 
 /* Numbers whose lower half would pass are refused like any other. */
@@ -702,11 +892,11 @@ static void darts_not_reached(void)
     struct map m;
     begin("darts not reached");
     m = post_free(1, 2);
-    all_refuse(m, 0, KZ_NOT_REACHED, 1);
-    all_refuse(m, 1, KZ_NOT_REACHED, 0);
+    form_refuses(m, 0, KZ_NOT_REACHED, 1);
+    form_refuses(m, 1, KZ_NOT_REACHED, 0);
     m = post_squares(2);
-    all_refuse(m, 0, KZ_NOT_REACHED, 8);
-    all_refuse(m, 9, KZ_NOT_REACHED, 0);
+    form_refuses(m, 0, KZ_NOT_REACHED, 8);
+    form_refuses(m, 9, KZ_NOT_REACHED, 0);
 }
 
 struct faulty {
@@ -768,6 +958,37 @@ static void first_fault_is_answered(void)
     EXPECT(call_write(f.m, f.root, f.start), 0, 0);
 }
 
+/* The same in the form of several bodies, which that of the fault 9 is: then 10 is left, and with 9 mended 30. */
+static void first_fault_of_several_bodies(void)
+{
+    static const uint32_t places[] = { 0, 0, 0, 0, 0, 17, 10, 2 };
+    struct faulty f;
+    uint32_t length;
+    int mended;
+    begin("first fault, several bodies");
+    form = SEVERAL_BODIES;
+    LEND(out, 9);
+    for (mended = 0; mended < 8; mended++) {
+        f = post_faults(mended);
+        EXPECT(call_check(f.m, f.root), (uint32_t)mended + 1, places[mended]);
+        EXPECT(call_write(f.m, f.root, f.start), (uint32_t)mended + 1, places[mended]);
+        if (mended != 4)
+            EXPECT(call_report(f.m), (uint32_t)mended + 1, places[mended]);
+        else
+            EXPECT(call_report(f.m), KZ_ENTRY, 17);
+    }
+    f = post_faults(8);
+    EXPECT(call_check(f.m, f.root), 0, 0);
+    EXPECT(call_report(f.m), 0, 0);
+    EXPECT(call_write(f.m, f.root, 0), 0, 0);
+    length = answer[3];
+    EXPECT(call_write(f.m, f.root, f.start), KZ_PAST_END, length);
+    f = post_faults(9);
+    EXPECT(call_check(f.m, f.root), KZ_ONE_BODY, 0);
+    EXPECT(call_report(f.m), KZ_ONE_BODY, 0);
+    EXPECT(call_write(f.m, f.root, f.start), KZ_ONE_BODY, 0);
+}
+
 /* Posted maps: the writer. */
 
 static uint8_t stream[KZ_MAX_STREAM];
@@ -806,6 +1027,17 @@ static void known_streams(void)
     m = post_chain(1, 3);
     expect_stream(m, 0, "10 02 48");
     expect_stream(m, 2, "10 02 88");
+    form = SEVERAL_BODIES;
+    expect_stream(post_free(1, 2), 0, "90 01 AA");
+    expect_stream(post_free(6, 2), 1, "E0 01 AA AA AA A0");
+    m = post_squares(2);
+    expect_stream(m, 0, "A0 0F 01 80 3D 50 0C 03 EA 80");
+    expect_stream(m, 11, "A0 0F 01 80 3D 50 0C 03 EA 80");
+    m = loop_and_chain();
+    expect_stream(m, 0, "90 06 60 02 84");
+    expect_stream(m, 1, "90 06 60 02 84");
+    expect_stream(m, 2, "90 06 42 60 0C");
+    expect_stream(m, 6, "90 06 82 60 0C");
 }
 
 /* Pages of one size, each begun where the last one ended, join to the stream. */
@@ -943,6 +1175,137 @@ static void samples_there_and_back(void)
     int k;
     for (k = 0; k < SAMPLES; k++)
         sample_there_and_back(&samples[k]);
+}
+
+/* Several bodies. */
+
+/* The darts reached from each dart of the posted map: `body_of` has for each the least of them. */
+static uint16_t body_of[KZ_MAX_DARTS];
+
+static void find_bodies(struct map m)
+{
+    uint64_t i, d, e;
+    int changed = 1;
+    for (d = 0; d < m.darts; d++)
+        body_of[d] = (uint16_t)d;
+    while (changed) {
+        changed = 0;
+        for (d = 0; d < m.darts; d++)
+            for (i = 0; i <= m.dim; i++) {
+                e = posted[position(m, i, d)];
+                if (body_of[e] < body_of[d]) {
+                    body_of[d] = body_of[e];
+                    changed = 1;
+                }
+            }
+    }
+}
+
+/* The least dart that dart 0 does not reach. */
+static uint32_t first_apart(void)
+{
+    uint32_t d = 0;
+    while (body_of[d] == 0)
+        d++;
+    return d;
+}
+
+/* Does the work room number the bodies one after the other, that of the root first, and each next one from the least
+   dart that has no number before it? How many there are; 0 if it does not. */
+static uint32_t bodies_in_order(struct map m, uint64_t root)
+{
+    uint32_t bodies = 1;
+    uint64_t k, least = 0;
+    for (k = 1; k < m.darts; k++) {
+        uint16_t dart = work[m.darts + k];
+        if (body_of[dart] == body_of[work[m.darts + k - 1]])
+            continue;
+        while (work[least] < k)
+            least++;
+        if (dart != least)
+            return 0;
+        bodies++;
+    }
+    return work[m.darts] == root ? bodies : 0;
+}
+
+/* Steps of the body that a dart is in. */
+static uint32_t steps_of_body(struct map m, uint64_t dart)
+{
+    uint32_t darts = 0;
+    uint64_t d;
+    for (d = 0; d < m.darts; d++)
+        darts += body_of[d] == body_of[dart];
+    return (uint32_t)(m.dim + 1) * darts;
+}
+
+/* The same stream in the form of one body ends with the root's body, by 15. */
+static void expect_too_few(struct map m, uint64_t root, size_t length)
+{
+    stream[0] ^= 0x80;
+    read_whole(stream, length, (m.dim + 1) * m.darts);
+    EXPECT_LAST(KZ_TOO_FEW, steps_of_body(m, root));
+    stream[0] ^= 0x80;
+}
+
+/* A site from one root; the last session read has found its bodies. Afterwards `stream` and `built` are the site's. */
+static size_t site_from_root(const struct site *s, struct map m, uint64_t root)
+{
+    size_t length;
+    EXPECT(call_check(m, root), 0, 0);
+    CHECK(bodies_in_order(m, root) == s->bodies);
+    length = there_and_back(m, root);
+    CHECK(stream[0] >> 4 == 8 + m.dim);
+    CHECK(record[0] == 3 && record[15] == SEVERAL_BODIES && record[16] == s->bodies);
+    return length;
+}
+
+static void site_there_and_back(const struct site *s)
+{
+    struct map m;
+    size_t length;
+    begin(s->map.name);
+    m = s->map.post();
+    find_bodies(m);
+    form_refuses(m, 0, KZ_NOT_REACHED, first_apart());
+    form = SEVERAL_BODIES;
+    expect_report(&s->map, m);
+    expect_too_few(m, 0, site_from_root(s, m, 0));
+    site_from_root(s, m, m.darts / 3);
+    expect_too_few(m, m.darts / 2, site_from_root(s, m, m.darts / 2));
+    length = site_from_root(s, m, m.darts - 1);
+    post_what_was_built(m, length);
+    expect_report(&s->map, m);
+}
+
+static void sites_there_and_back(void)
+{
+    int k;
+    for (k = 0; k < SITES; k++)
+        site_there_and_back(&sites[k]);
+}
+
+/* 30 in all calls: each map of one body is refused in the form of several, and so is its stream. */
+static void one_body_is_refused(void)
+{
+    struct map m;
+    size_t length, k, entries;
+    for (k = 0; k < SAMPLES; k++) {
+        begin(samples[k].name);
+        m = samples[k].post();
+        entries = (size_t)((m.dim + 1) * m.darts);
+        length = write_whole(m, m.darts / 2);
+        form = SEVERAL_BODIES;
+        form_refuses(m, 0, KZ_ONE_BODY, 0);
+        form_refuses(m, m.darts - 1, KZ_ONE_BODY, 0);
+        EXPECT(call_write(m, 0, MOST), KZ_ONE_BODY, 0);
+        stream[0] |= 0x80;
+        read_whole(stream, length, entries + SPARE);
+        EXPECT_LAST(KZ_ONE_BODY, (uint32_t)entries);
+        feed_pages_of(stream, length, entries + SPARE, 64);
+        if (length < 64)
+            feed_cut_everywhere(stream, length, entries + SPARE);
+    }
 }
 
 /* Face files. */
@@ -1182,7 +1545,8 @@ static void rooms_for_a_cube(void)
     EXPECT_FACES(KZ_VERTEX, 1);
 }
 
-/* Two squares that have no side in common: the tables hold both, though 9 does not tell how many darts they have. */
+/* Two squares that have no side in common: the tables hold both, though 9 does not tell how many darts they have, and
+   go out in the form of several bodies. */
 static void squares_apart(void)
 {
     struct map m;
@@ -1195,6 +1559,10 @@ static void squares_apart(void)
     EXPECT_FACES(KZ_NOT_REACHED, 8);
     CHECK(no_link(work, 32) && same_entries(posted, wanted_tables, 48));
     EXPECT(call_check(m, 8), KZ_NOT_REACHED, 0);
+    form = SEVERAL_BODIES;
+    EXPECT(call_check(m, 0), 0, 0);
+    expect_stream(m, 0, "A0 0F 01 80 3D 50 0C 03 EA 80");
+    form = ONE_BODY;
     SHORTEN(work, 31);
     EXPECT_FACES(KZ_SHORT_WORK, 0);
 }
@@ -1283,6 +1651,25 @@ static void longest_stream(void)
     EXPECT_LAST(KZ_SHORT_TABLES, 0);
 }
 
+/* The longest of several bodies: no stream of this form is longer. */
+static void longest_stream_of_bodies(void)
+{
+    struct map m;
+    size_t length;
+    begin("longest stream of several bodies");
+    form = SEVERAL_BODIES;
+    m = most_couples();
+    SHORTEN(posted, KZ_MAX_TABLES);
+    SHORTEN(work, KZ_MAX_WORK);
+    length = write_whole(m, 0);
+    CHECK(length == 21762);
+    read_whole(stream, length, KZ_MAX_TABLES);
+    CHECK(whole_answer[0] == 0 && whole_answer[2] == KZ_MAX_TABLES);
+    feed_pages_of(stream, length, KZ_MAX_TABLES, 4096);
+    read_whole(stream, length, KZ_MAX_TABLES - 1);
+    EXPECT_LAST(KZ_SHORT_TABLES, 0);
+}
+
 /* Every number has a text of its own, with what its place is; all that are no refusal's share one. */
 static void every_number_has_a_text(void)
 {
@@ -1302,7 +1689,7 @@ static void every_number_has_a_text(void)
 static void every_number_was_seen(void)
 {
     uint32_t k;
-    what = "every number from 0 to 23 and from 26 to 29 was answered, and no other";
+    what = "every number from 0 to 23 and from 26 to 30 was answered, and no other";
     for (k = 0; k < NUMBERS; k++)
         CHECK(seen[k] == is_number(k));
 }
@@ -1313,6 +1700,8 @@ int main(void)
     read_known_tables();
     sessions_agree_with_whole_reads();
     record_after_each_byte();
+    bodies_after_each_byte();
+    one_body_refuses_a_session();
     index_waits_for_its_last_bit();
     empty_page_changes_nothing();
     closed_once();
@@ -1320,6 +1709,8 @@ int main(void)
     unfit_records_are_left();
     lent_refusals_and_closed_records();
     lent_session_goes_on();
+    lent_bodies_go_on();
+    wrong_forms_and_bodies();
     fetch_is_least();
     fetch_each_stream();
     fetch_after_each_byte();
@@ -1330,9 +1721,12 @@ int main(void)
     manifold_condition_by_pair_then_dart();
     darts_not_reached();
     first_fault_is_answered();
+    first_fault_of_several_bodies();
     known_streams();
     starts_at_and_past_the_end();
     samples_there_and_back();
+    sites_there_and_back();
+    one_body_is_refused();
     read_each_face_file();
     face_files_of_grids();
     face_files_of_squares();
@@ -1341,6 +1735,7 @@ int main(void)
     long_face_files();
     as_many_darts_as_allowed();
     longest_stream();
+    longest_stream_of_bodies();
     every_number_has_a_text();
     every_number_was_seen();
     printf("surface: %lu checks, %lu failed\n", checks, failures);

@@ -200,6 +200,53 @@ static struct map post_pairs(uint64_t darts)
     return m;
 }
 
+/* Maps of one dimension side by side, up to a null, none joined to another: each has its darts after those of the ones
+   before. */
+static struct map post_beside(struct map (*const parts[])(void))
+{
+    static uint16_t together[TABLES];
+    struct map m = { 0, 0 }, part;
+    uint64_t k, entries;
+    for (; *parts != NULL; parts++) {
+        part = (*parts)();
+        entries = (part.dim + 1) * part.darts;
+        for (k = 0; k < entries; k++)
+            together[(part.dim + 1) * m.darts + k] = (uint16_t)(posted[k] + m.darts);
+        m.dim = part.dim;
+        m.darts += part.darts;
+    }
+    m = post_free(m.dim, m.darts);
+    for (k = 0; k < (m.dim + 1) * m.darts; k++)
+        posted[k] = together[k];
+    return m;
+}
+
+/* The posted map with its darts renamed, dart d to stride*d mod n: so the darts of a body are not neighbours any more.
+   The stride has no divisor in common with n. */
+static struct map scatter(struct map m, uint64_t stride)
+{
+    static uint16_t renamed[TABLES];
+    uint64_t i, d, k;
+    for (d = 0; d < m.darts; d++)
+        for (i = 0; i <= m.dim; i++)
+            renamed[position(m, i, stride * d % m.darts)] = (uint16_t)(stride * posted[position(m, i, d)] % m.darts);
+    for (k = 0; k < (m.dim + 1) * m.darts; k++)
+        posted[k] = renamed[k];
+    return m;
+}
+
+/* Pairs of darts, each tied to the other at every rank and to nothing else: the map of dimension 6 with the longest
+   stream in the form of several bodies. */
+static struct map post_couples(uint64_t darts)
+{
+    struct map m = post_free(6, darts);
+    uint64_t i, d;
+    for (i = 0; i <= 6; i++)
+        for (d = 0; d < darts; d++)
+            tie(m, i, d, d ^ 1);
+    return m;
+}
+
 /* The samples, with what the report says of them. */
 
 static const uint64_t four_lengths[4] = { 4, 3, 5, 2 };
@@ -269,5 +316,54 @@ static const struct sample samples[] = {
 };
 
 enum { SAMPLES = sizeof samples / sizeof samples[0] };
+
+/* Those of several bodies. */
+
+#define BESIDE(...) post_beside((struct map (*const[])(void)){ __VA_ARGS__, NULL })
+
+static struct map chain_in_five(void) { return post_chain(5, 6); }
+
+static struct map two_lone_darts(void) { return post_free(1, 2); }
+static struct map loop_and_chain(void) { return BESIDE(loop, chain_of_five); }
+static struct map house_and_shed(void) { return BESIDE(grid_three_by_two, open_square); }
+static struct map shed_and_house(void) { return BESIDE(open_square, grid_three_by_two); }
+static struct map band_and_torus(void) { return BESIDE(moebius_band, torus_three_by_two); }
+static struct map torus_and_bottle(void) { return BESIDE(torus_three_by_two, klein_bottle); }
+static struct map two_bands(void) { return BESIDE(moebius_band, moebius_band); }
+static struct map two_cubes(void) { return BESIDE(cube, wrapped_cube); }
+static struct map two_boxes_in_four(void) { return BESIDE(wrapped_box_in_four, wrapped_box_in_four); }
+static struct map box_and_chain_in_five(void) { return BESIDE(wrapped_box_in_five, chain_in_five); }
+static struct map four_in_six(void) { return BESIDE(bits_in_six, paths_in_six, chain_in_six, lone_dart); }
+static struct map squares_scattered(void) { return scatter(post_squares(5), 7); }
+static struct map houses_scattered(void) { return scatter(house_and_shed(), 27); }
+static struct map site_of_64(void) { return post_squares(64); }
+static struct map most_bodies(void) { return post_free(6, KZ_MAX_DARTS); }
+static struct map most_couples(void) { return post_couples(KZ_MAX_DARTS); }
+
+struct site {
+    struct sample map;
+    uint32_t bodies;
+};
+
+static const struct site sites[] = {
+    { { "two lone darts", two_lone_darts, { 2, 2 }, 4, 1 }, 2 },
+    { { "loop and chain", loop_and_chain, { 4, 4 }, 2, 1 }, 2 },
+    { { "house and shed", house_and_shed, { 16, 21, 7 }, 28, 1 }, 2 },
+    { { "shed and house", shed_and_house, { 16, 21, 7 }, 28, 1 }, 2 },
+    { { "band and torus", band_and_torus, { 8, 15, 7 }, 4, 0 }, 2 },
+    { { "torus and bottle", torus_and_bottle, { 7, 14, 7 }, 0, 0 }, 2 },
+    { { "two bands", two_bands, { 4, 6, 2 }, 8, 0 }, 2 },
+    { { "cube and wrapped cube", two_cubes, { 9, 15, 9, 2 }, 48, 1 }, 2 },
+    { { "two boxes in four", two_boxes_in_four, { 2, 8, 12, 8, 2 }, 0, 1 }, 2 },
+    { { "box and chain in five", box_and_chain_in_five, { 5, 8, 11, 11, 6, 2 }, 26, 1 }, 2 },
+    { { "four in six", four_in_six, { 10, 8, 6, 6, 7, 7, 6 }, 227, 1 }, 4 },
+    { { "squares scattered", squares_scattered, { 20, 20, 5 }, 40, 1 }, 5 },
+    { { "houses scattered", houses_scattered, { 16, 21, 7 }, 28, 1 }, 2 },
+    { { "site of 64 squares", site_of_64, { 256, 256, 64 }, 512, 1 }, 64 },
+    { { "as many bodies as darts", most_bodies, { 4096, 4096, 4096, 4096, 4096, 4096, 4096 }, 28672, 1 }, 4096 },
+    { { "most couples", most_couples, { 2048, 2048, 2048, 2048, 2048, 2048, 2048 }, 0, 1 }, 2048 },
+};
+
+enum { SITES = sizeof sites / sizeof sites[0] };
 
 #endif

@@ -33,6 +33,7 @@ static const char *const messages[] = {
     [KZ_VERTEX] = "a vertex number is too large (place: the face, counted from 0)",
     [KZ_FACE] = "a face has fewer than three corners or two equal neighbours (place: the face, counted from 0)",
     [KZ_SIDE] = "a side is used a third time (place: the face, counted from 0)",
+    [KZ_ONE_BODY] = "only one body in the form of several bodies (place: the steps done in a reading, else 0)",
 };
 
 /* A number between others may be no refusal's, and has no text in the list then. */

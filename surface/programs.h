@@ -16,16 +16,17 @@ union session {
     struct ref_session queues;
 };
 
+/* Those that take a posted map have a call for each form; rooms.h says in `form` which is made. */
 struct program {
-    uint32_t (*check)(uint64_t, uint64_t, uint64_t, const uint16_t *, size_t, uint16_t *, size_t, uint32_t *);
+    uint32_t (*check[FORMS])(uint64_t, uint64_t, uint64_t, const uint16_t *, size_t, uint16_t *, size_t, uint32_t *);
     uint32_t (*faces)(const uint8_t *, size_t, uint16_t *, size_t, uint16_t *, size_t, uint64_t *);
-    uint32_t (*write)(uint64_t, uint64_t, uint64_t, uint64_t, const uint16_t *, size_t, uint16_t *, size_t, uint8_t *,
-                      size_t, uint32_t *);
+    uint32_t (*write[FORMS])(uint64_t, uint64_t, uint64_t, uint64_t, const uint16_t *, size_t, uint16_t *, size_t,
+                             uint8_t *, size_t, uint32_t *);
     uint32_t (*read)(const uint8_t *, size_t, uint16_t *, size_t, uint32_t *);
     void (*open)(union session *);
     uint32_t (*page)(union session *, const uint8_t *, size_t, uint16_t *, size_t, uint32_t *);
     uint32_t (*close)(union session *, uint16_t *, size_t, uint32_t *);
-    uint32_t (*report)(uint64_t, uint64_t, const uint16_t *, size_t, uint16_t *, size_t, uint32_t *);
+    uint32_t (*report[FORMS])(uint64_t, uint64_t, const uint16_t *, size_t, uint16_t *, size_t, uint32_t *);
 };
 
 static void library_open(union session *s) { kz_open(s->record); }
@@ -53,8 +54,10 @@ static uint32_t reference_close(union session *s, uint16_t *tables, size_t room,
 enum { LIBRARY, REFERENCE, PROGRAMS };
 
 static const struct program programs[PROGRAMS] = {
-    { kz_check, kz_faces, kz_write, kz_read, library_open, library_page, library_close, kz_report },
-    { ref_check, ref_faces, ref_write, ref_read, reference_open, reference_page, reference_close, ref_report },
+    { { kz_check, kz_check_bodies }, kz_faces, { kz_write, kz_write_bodies }, kz_read, library_open, library_page,
+      library_close, { kz_report, kz_report_bodies } },
+    { { ref_check, ref_check_bodies }, ref_faces, { ref_write, ref_write_bodies }, ref_read, reference_open,
+      reference_page, reference_close, { ref_report, ref_report_bodies } },
 };
 
 /* What each program is lent. */
@@ -110,8 +113,9 @@ static void same_room(const char *call, const char *room, const void *library, c
         return;
     while (a[k] == b[k])
         k++;
-    printf("bench: %s differs, map %s, N %u, n %u, root %u: %s, byte %u: library %u, reference %u\n", call, map_name,
-           (unsigned)map_shape.dim, (unsigned)map_shape.darts, (unsigned)map_root, room, (unsigned)k, a[k], b[k]);
+    printf("bench: %s differs%s, map %s, N %u, n %u, root %u: %s, byte %u: library %u, reference %u\n", call,
+           form == ONE_BODY ? "" : " in the form of several bodies", map_name, (unsigned)map_shape.dim,
+           (unsigned)map_shape.darts, (unsigned)map_root, room, (unsigned)k, a[k], b[k]);
     exit(1);
 }
 
@@ -145,12 +149,12 @@ static void compare_check(struct posting p)
     int k;
     prepare_both();
     for (k = 0; k < PROGRAMS; k++)
-        programs[k].check(p.m.dim, p.m.darts, p.root, posted, p.tables, sides[k].work, p.work, sides[k].answer);
+        programs[k].check[form](p.m.dim, p.m.darts, p.root, posted, p.tables, sides[k].work, p.work, sides[k].answer);
     same_sides("check");
 }
 
-/* Maps reported: closed or with a free pair, orientable or not. */
-static unsigned long reports_by[2][2];
+/* Maps reported: in each form, closed or with a free pair, orientable or not. */
+static unsigned long reports_by[FORMS][2][2];
 
 static void compare_report(struct posting p)
 {
@@ -158,22 +162,39 @@ static void compare_report(struct posting p)
     int k;
     prepare_both();
     for (k = 0; k < PROGRAMS; k++)
-        programs[k].report(p.m.dim, p.m.darts, posted, p.tables, sides[k].work, p.work, sides[k].answer);
+        programs[k].report[form](p.m.dim, p.m.darts, posted, p.tables, sides[k].work, p.work, sides[k].answer);
     same_sides("report");
     if (answer[0] == 0)
-        reports_by[answer[9] > 0][answer[10]]++;
+        reports_by[form][answer[9] > 0][answer[10]]++;
 }
 
 /* Maps of each kind were met. */
 static void all_reports_met(void)
 {
     int k;
-    for (k = 0; k < 4; k++)
-        if (reports_by[k / 2][k % 2] == 0) {
-            printf("bench: no %s map that is %sorientable was compared\n", k / 2 ? "open" : "closed",
-                   k % 2 ? "" : "not ");
+    for (k = 0; k < 4 * FORMS; k++)
+        if (reports_by[k / 4][k / 2 % 2][k % 2] == 0) {
+            printf("bench: no %s map of %s that is %sorientable was compared\n", k / 2 % 2 ? "open" : "closed",
+                   k / 4 == ONE_BODY ? "one body" : "several bodies", k % 2 ? "" : "not ");
             exit(1);
         }
+}
+
+/* Spoiled maps checked in each form, by number. */
+static unsigned long checks_by[FORMS][NUMBERS];
+
+/* Every number that a form's check gives was met, and no other. */
+static void all_checks_met(void)
+{
+    uint32_t k;
+    for (form = ONE_BODY; form < FORMS; form++)
+        for (k = 0; k < NUMBERS; k++)
+            if ((checks_by[form][k] > 0) != is_of_check(k)) {
+                printf("bench: %lu of the maps checked for %s were answered by %u\n", checks_by[form][k],
+                       form == ONE_BODY ? "one body" : "several bodies", (unsigned)k);
+                exit(1);
+            }
+    form = ONE_BODY;
 }
 
 static unsigned long faces_by[NUMBERS]; /* how many of the face files compared were answered by each number */
@@ -210,8 +231,8 @@ static void compare_write(struct posting p, uint64_t start, size_t size)
     int k;
     prepare_both();
     for (k = 0; k < PROGRAMS; k++)
-        programs[k].write(p.m.dim, p.m.darts, p.root, start, posted, p.tables, sides[k].work, p.work, sides[k].out,
-                          size, sides[k].answer);
+        programs[k].write[form](p.m.dim, p.m.darts, p.root, start, posted, p.tables, sides[k].work, p.work,
+                                sides[k].out, size, sides[k].answer);
     same_sides("write");
 }
 
@@ -231,7 +252,8 @@ static size_t compare_writes(struct posting p, size_t size)
     return length;
 }
 
-static unsigned long reads_by[NUMBERS]; /* how many of the reads compared were answered by each number */
+static unsigned long reads_by[NUMBERS];        /* how many of the reads compared were answered by each number */
+static unsigned long reads_of_bodies[NUMBERS]; /* and how many of those of several bodies */
 
 static void compare_read(const uint8_t *bytes, size_t length, size_t tables)
 {
@@ -241,17 +263,22 @@ static void compare_read(const uint8_t *bytes, size_t length, size_t tables)
         programs[k].read(bytes, length, sides[k].tables, tables, sides[k].answer);
     same_sides("read");
     reads_by[sides[LIBRARY].answer[0]]++;
+    if (length > 0 && bytes[0] >= 0x80)
+        reads_of_bodies[sides[LIBRARY].answer[0]]++;
 }
 
-/* Every number that a reading finds was met, and no other. */
+/* Every number that a reading finds was met, and no other; of several bodies too, but for 15. */
 static void all_reads_met(void)
 {
     uint32_t k;
-    for (k = 0; k < NUMBERS; k++)
-        if ((reads_by[k] > 0) != (k == 0 || is_found(k))) {
-            printf("bench: %lu of the reads compared were answered by %u\n", reads_by[k], (unsigned)k);
+    for (k = 0; k < NUMBERS; k++) {
+        int met = k == 0 || is_found(k);
+        if ((reads_by[k] > 0) != met || (reads_of_bodies[k] > 0) != (met && k != KZ_TOO_FEW)) {
+            printf("bench: %lu of the reads compared were answered by %u, %lu of several bodies\n", reads_by[k],
+                   (unsigned)k, reads_of_bodies[k]);
             exit(1);
         }
+    }
 }
 
 static void compare_page(const uint8_t *bytes, size_t length, size_t tables)
@@ -287,7 +314,7 @@ static void compare_session(const uint8_t *bytes, size_t length, size_t tables, 
     compare_close(tables);
 }
 
-/* Every call on the posted map from one root. */
+/* Every call on the posted map from one root, in both forms: one of them takes it. */
 static void compare_map(const char *name, struct map m, uint64_t root, size_t write_size, size_t read_size)
 {
     size_t length, entries = (size_t)((m.dim + 1) * m.darts);
@@ -296,12 +323,17 @@ static void compare_map(const char *name, struct map m, uint64_t root, size_t wr
     map_shape = m;
     map_root = root;
     use_rooms(entries, p.work, KZ_MAX_STREAM);
-    compare_check(p);
-    compare_report(p);
-    length = compare_writes(p, write_size);
-    compare_read(stream, length, entries);
-    compare_session(stream, length, entries, read_size);
-    compare_session(stream, length, entries, 1024);
+    for (form = ONE_BODY; form < FORMS; form++) {
+        compare_check(p);
+        compare_report(p);
+        length = compare_writes(p, write_size);
+        if (length == 0)
+            continue;
+        compare_read(stream, length, entries);
+        compare_session(stream, length, entries, read_size);
+        compare_session(stream, length, entries, 1024);
+    }
+    form = ONE_BODY;
 }
 
 /* Spoiled inputs. */
@@ -357,9 +389,13 @@ static void compare_spoiled_maps(int rounds)
             spoil_posting(&p);
         while (dice(2) && p.m.darts == sizes[0] && p.m.dim == kind->dim);
         map_shape = p.m;
-        compare_check(p);
-        compare_report(p);
-        compare_write(p, dice(128), dice(256));
+        for (form = ONE_BODY; form < FORMS; form++) {
+            compare_check(p);
+            checks_by[form][sides[LIBRARY].answer[0]]++;
+            compare_report(p);
+            compare_write(p, dice(128), dice(256));
+        }
+        form = ONE_BODY;
     }
 }
 
@@ -388,7 +424,9 @@ static void compare_spoiled_streams(int rounds)
         map_shape = p.m;
         p.root = map_root = dice((uint32_t)p.m.darts);
         use_rooms(KZ_MAX_TABLES, p.work, 1024);
+        form = kind->form;
         compare_write(p, 0, 1024);
+        form = ONE_BODY;
         length = sides[LIBRARY].answer[3];
         memcpy(stream, sides[LIBRARY].out, length);
         length = spoil_stream(length);
@@ -398,7 +436,7 @@ static void compare_spoiled_streams(int rounds)
     }
 }
 
-static const uint8_t known_streams[][7] = {
+static const uint8_t known_streams[][8] = {
     { 0x20, 0x02, 0xA2, 0x80 },
     { 0x30, 0x07, 0x45, 0x41, 0x80, 0x3D, 0x00 },
     { 0x30, 0x07, 0x45, 0x41, 0x80, 0x3D, 0x01 },
@@ -409,6 +447,16 @@ static const uint8_t known_streams[][7] = {
     { 0x10, 0x01, 0xA1, 0x00 },
     { 0x10, 0x00, 0xA1, 0x00 },
     { 0x10, 0x00, 0xA0, 0xFF },
+    { 0x90, 0x00, 0xA1, 0x00 },
+    { 0x90, 0x01, 0xAA, 0x00 },
+    { 0xA0, 0x01, 0xAA, 0xA1, 0x00 },
+    { 0xA0, 0x03, 0xAA, 0x8A, 0x00 },
+    { 0xB0, 0x08, 0x45, 0x41, 0x80, 0x3D, 0x55, 0x01 },
+    { 0x90, 0x02, 0xAC, 0x00, 0x00 },
+    { 0x90, 0x02, 0xAC, 0x00, 0x40 },
+    { 0x90, 0x02, 0xAC, 0x00, 0x80 },
+    { 0x80, 0x00, 0xAA },
+    { 0xF0, 0x00, 0xAA },
 };
 
 /* Streams of the requirements that end in each refusal, in every length. */
@@ -418,7 +466,7 @@ static void compare_known_streams(void)
     map_name = "known streams";
     use_rooms(64, 0, 0);
     for (k = 0; k < sizeof known_streams / sizeof known_streams[0]; k++)
-        for (length = 0; length <= 7; length++) {
+        for (length = 0; length <= 8; length++) {
             compare_read(known_streams[k], length, 40);
             compare_session(known_streams[k], length, 40, 1);
             compare_session(known_streams[k], length, 5, 2);
@@ -485,6 +533,13 @@ static void compare_small(void)
         compare_map(samples[k].name, m, 0, 7, 1);
         compare_map(samples[k].name, m, m.darts - 1, 64, 3);
     }
+    for (k = 0; k < SITES; k++) {
+        struct map m = sites[k].map.post();
+        if (m.darts > sizes[1])
+            continue;
+        compare_map(sites[k].map.name, m, 0, 7, 1);
+        compare_map(sites[k].map.name, m, m.darts / 2 + 1, 64, 3);
+    }
     for (k = 0; k < KINDS; k++) {
         struct map m = kinds[k].post(0);
         compare_map(kinds[k].name, m, 0, 61, 1);
@@ -495,6 +550,7 @@ static void compare_small(void)
     compare_face_files(3000);
     compare_long_face_files(60);
     all_faces_met();
+    all_checks_met();
     all_reads_met();
     all_reports_met();
 }

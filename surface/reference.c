@@ -172,11 +172,13 @@ static void put_bits(struct stream *stream, uint32_t value, uint32_t width)
     }
 }
 
-static void begin_stream(struct stream *stream, const struct map *map)
+/* The first bit is the form, the next three are N. */
+static void begin_stream(struct stream *stream, const struct map *map, enum ref_form form)
 {
     stream->length = 0;
     stream->bits = stream->bit_count = 0;
-    put_bits(stream, map->dim, 4);
+    put_bits(stream, form == REF_SEVERAL_BODIES, 1);
+    put_bits(stream, map->dim, 3);
     put_bits(stream, map->darts - 1, 12);
 }
 
@@ -246,10 +248,31 @@ static void step(const struct map *map, struct walk *walk, uint32_t j)
     pass_on(walk->queues, j, map->dim);
 }
 
-/* The walk from a root. The work room gets the numbering, the stream its bytes. */
-static void walk_map(const struct map *map, uint32_t root, uint16_t *work, struct stream *stream, struct walk *walk)
+/* Numbers a dart and all that are reached from it. */
+static void walk_body(const struct map *map, uint32_t root, struct walk *walk)
 {
     uint32_t j;
+    number_dart(walk, root);
+    while ((j = lowest_rank(walk->queues, map->dim)) <= map->dim)
+        step(map, walk, j);
+}
+
+/* The bodies that the root's does not reach, each from its least dart; how many. A body that has begun is numbered
+   whole, so the search for the next one never goes back. */
+static uint32_t walk_others(const struct map *map, struct walk *walk)
+{
+    uint32_t bodies = 0;
+    for (uint32_t d = 0; walk->count < map->darts; d++)
+        if (walk->number_of[d] == NO_LINK) {
+            walk_body(map, d, walk);
+            bodies++;
+        }
+    return bodies;
+}
+
+/* An empty walk. The work room will get the numbering, the stream its bytes. */
+static void begin_walk(const struct map *map, uint16_t *work, struct stream *stream, struct walk *walk)
+{
     empty_queues(walk->queues);
     memset(walk->known, 0, (size_t)(map->dim + 1) * map->darts);
     fill_no_link(work, 2 * map->darts);
@@ -257,13 +280,11 @@ static void walk_map(const struct map *map, uint32_t root, uint16_t *work, struc
     walk->dart_of = work + map->darts;
     walk->count = 0;
     walk->stream = stream;
-    number_dart(walk, root);
-    while ((j = lowest_rank(walk->queues, map->dim)) <= map->dim)
-        step(map, walk, j);
 }
 
 /* A posted map, tested and numbered. */
 struct posting {
+    enum ref_form form;
     uint64_t dim, darts, root;
     const uint16_t *tables;
     size_t tables_length;
@@ -280,13 +301,24 @@ static struct fault first_not_reached(uint16_t *work, uint32_t darts)
     return fault;
 }
 
-/* Refusal 9 of a valid map; else the work room holds the numbering and the stream is written. */
-static struct fault number_darts(const struct map *map, uint32_t root, uint16_t *work, struct stream *stream)
+static struct fault one_body_found(uint16_t *work, uint32_t darts)
+{
+    fill_no_link(work, 2 * darts);
+    return (struct fault){ 30, 0 };
+}
+
+/* Refusal 9 of a valid map, or 30 in the form of several bodies; else the work room holds the numbering and the stream
+   is written. */
+static struct fault number_darts(const struct map *map, enum ref_form form, uint32_t root, uint16_t *work,
+                                 struct stream *stream)
 {
     static struct walk walk;
     if (stream != NULL)
-        begin_stream(stream, map);
-    walk_map(map, root, work, stream, &walk);
+        begin_stream(stream, map, form);
+    begin_walk(map, work, stream, &walk);
+    walk_body(map, root, &walk);
+    if (form == REF_SEVERAL_BODIES && walk_others(map, &walk) == 0)
+        return one_body_found(work, map->darts);
     if (walk.count < map->darts)
         return first_not_reached(work, map->darts);
     if (stream != NULL)
@@ -294,7 +326,7 @@ static struct fault number_darts(const struct map *map, uint32_t root, uint16_t 
     return no_fault;
 }
 
-/* Refusals 1 to 9. */
+/* Refusals 1 to 9, or 30 in 9's place. */
 static struct fault check_posting(const struct posting *p, struct stream *stream)
 {
     struct fault fault = test_numbers(p->dim, p->darts, p->root, p->tables_length, p->work_length);
@@ -304,13 +336,20 @@ static struct fault check_posting(const struct posting *p, struct stream *stream
     fault = test_tables(&map);
     if (fault.number != 0)
         return fault;
-    return number_darts(&map, (uint32_t)p->root, p->work, stream);
+    return number_darts(&map, p->form, (uint32_t)p->root, p->work, stream);
 }
 
 uint32_t ref_check(uint64_t dim, uint64_t darts, uint64_t root, const uint16_t *tables, size_t tables_length,
                    uint16_t *work, size_t work_length, uint32_t *answer)
 {
-    struct posting posting = { dim, darts, root, tables, tables_length, work, work_length };
+    struct posting posting = { REF_ONE_BODY, dim, darts, root, tables, tables_length, work, work_length };
+    return answer_fault(answer, CHECK_ANSWER, check_posting(&posting, NULL));
+}
+
+uint32_t ref_check_bodies(uint64_t dim, uint64_t darts, uint64_t root, const uint16_t *tables, size_t tables_length,
+                          uint16_t *work, size_t work_length, uint32_t *answer)
+{
+    struct posting posting = { REF_SEVERAL_BODIES, dim, darts, root, tables, tables_length, work, work_length };
     return answer_fault(answer, CHECK_ANSWER, check_posting(&posting, NULL));
 }
 
@@ -518,7 +557,7 @@ static struct fault post_faces(const struct face_file *file, uint16_t *tables, s
             join_corner(file, first + k, k + 1 < file->sizes[f] ? first + k + 1 : first, tables);
         first += file->sizes[f];
     }
-    return number_darts(&map, 0, work, NULL);
+    return number_darts(&map, REF_ONE_BODY, 0, work, NULL);
 }
 
 uint32_t ref_faces(const uint8_t *bytes, size_t bytes_length, uint16_t *tables, size_t tables_length, uint16_t *work,
@@ -545,13 +584,12 @@ uint32_t ref_faces(const uint8_t *bytes, size_t bytes_length, uint16_t *tables, 
     return number;
 }
 
-uint32_t ref_write(uint64_t dim, uint64_t darts, uint64_t root, uint64_t start, const uint16_t *tables,
-                   size_t tables_length, uint16_t *work, size_t work_length, uint8_t *out, size_t out_length,
-                   uint32_t *answer)
+/* The page of the posted map's stream from `start` on. */
+static uint32_t write_page(const struct posting *posting, uint64_t start, uint8_t *out, size_t out_length,
+                           uint32_t *answer)
 {
     static struct stream stream;
-    struct posting posting = { dim, darts, root, tables, tables_length, work, work_length };
-    struct fault fault = check_posting(&posting, &stream);
+    struct fault fault = check_posting(posting, &stream);
     if (fault.number == 0 && start > stream.length)
         fault = (struct fault){ 10, (uint32_t)stream.length };
     answer_fault(answer, WRITE_ANSWER, fault);
@@ -564,6 +602,22 @@ uint32_t ref_write(uint64_t dim, uint64_t darts, uint64_t root, uint64_t start, 
     answer[2] = (uint32_t)written;
     answer[3] = (uint32_t)stream.length;
     return 0;
+}
+
+uint32_t ref_write(uint64_t dim, uint64_t darts, uint64_t root, uint64_t start, const uint16_t *tables,
+                   size_t tables_length, uint16_t *work, size_t work_length, uint8_t *out, size_t out_length,
+                   uint32_t *answer)
+{
+    struct posting posting = { REF_ONE_BODY, dim, darts, root, tables, tables_length, work, work_length };
+    return write_page(&posting, start, out, out_length, answer);
+}
+
+uint32_t ref_write_bodies(uint64_t dim, uint64_t darts, uint64_t root, uint64_t start, const uint16_t *tables,
+                          size_t tables_length, uint16_t *work, size_t work_length, uint8_t *out, size_t out_length,
+                          uint32_t *answer)
+{
+    struct posting posting = { REF_SEVERAL_BODIES, dim, darts, root, tables, tables_length, work, work_length };
+    return write_page(&posting, start, out, out_length, answer);
 }
 
 /* Reading. */
@@ -672,12 +726,30 @@ static uint32_t read_step(struct ref_session *session, struct page *page, uint16
     return DONE;
 }
 
-/* All queues are empty: 15, 16 and 17. What waits is the fill of the last byte. */
+/* The next number is the root of another body. */
+static void begin_body(struct ref_session *session)
+{
+    session->bodies++;
+    enter(&session->queues[0], session->count++);
+}
+
+/* All queues are empty: is there another body to begin? Then it begins at once, without a symbol. */
+static int goes_on(struct ref_session *session)
+{
+    if (session->form != REF_SEVERAL_BODIES || session->count == session->darts)
+        return 0;
+    begin_body(session);
+    return 1;
+}
+
+/* The walk has ended: 15 or 30, 16 and 17. What waits is the fill of the last byte. */
 static uint32_t end_walk(struct ref_session *session, const uint16_t *tables)
 {
     struct map map = { session->dim, session->darts, tables };
     if (session->count < session->darts)
         return 15;
+    if (session->form == REF_SEVERAL_BODIES && session->bodies == 1)
+        return 30;
     if (test_manifold(&map).number != 0)
         return 16;
     if (session->bits != 0)
@@ -690,11 +762,13 @@ static uint32_t end_walk(struct ref_session *session, const uint16_t *tables)
 static uint32_t run(struct ref_session *session, struct page *page, uint16_t *tables)
 {
     uint32_t j, outcome;
-    while ((j = lowest_rank(session->queues, session->dim)) <= session->dim) {
-        outcome = read_step(session, page, tables, j);
-        if (outcome != DONE)
-            return outcome;
-    }
+    do {
+        while ((j = lowest_rank(session->queues, session->dim)) <= session->dim) {
+            outcome = read_step(session, page, tables, j);
+            if (outcome != DONE)
+                return outcome;
+        }
+    } while (goes_on(session));
     return end_walk(session, tables);
 }
 
@@ -702,7 +776,8 @@ static uint32_t read_header(struct ref_session *session, struct page *page, uint
 {
     if (!have_bits(session, page, 16))
         return WAITS;
-    uint32_t dim = session->bits >> 12, darts = (session->bits & 4095) + 1;
+    uint32_t dim = session->bits >> 12 & 7, darts = (session->bits & 4095) + 1;
+    enum ref_form form = session->bits >> 15 ? REF_SEVERAL_BODIES : REF_ONE_BODY;
     drop_bits(session, 16);
     if (dim < 1 || dim >= REF_RANKS)
         return 1;
@@ -712,8 +787,8 @@ static uint32_t read_header(struct ref_session *session, struct page *page, uint
     session->state = REF_RUNNING;
     session->dim = dim;
     session->darts = darts;
-    session->count = 1;
-    enter(&session->queues[0], 0);
+    session->form = form;
+    begin_body(session);
     return DONE;
 }
 
@@ -752,6 +827,8 @@ void ref_open(struct ref_session *session)
     session->number = session->place = 0;
     session->dim = session->darts = session->count = session->steps = 0;
     session->bits = session->bit_count = 0;
+    session->form = REF_ONE_BODY;
+    session->bodies = 0;
     empty_queues(session->queues);
 }
 
@@ -839,6 +916,8 @@ void ref_record(const struct ref_session *session, uint32_t record[REF_RECORD])
         record[6 + j] = session->queues[j].head;
     record[13] = session->bit_count;
     record[14] = session->bits;
+    record[15] = (uint32_t)session->form;
+    record[16] = session->bodies;
 }
 
 /* The report. */
@@ -883,13 +962,12 @@ static uint32_t count_cells(const struct map *map, uint32_t rank, struct flood *
     return cells;
 }
 
-/* Marks the darts reached from dart 0 with 1 and 2, a new dart with the other mark than the dart it is reached from; 1
-   if then every link that takes a marked dart to another dart takes it to the other mark. */
-static uint32_t two_classes(const struct map *map, struct flood *flood)
+/* Marks the darts reached from one dart with 1 and 2, a new dart with the other mark than the dart it is reached from;
+   1 if then every link that takes one of them to another dart takes it to the other mark. */
+static uint32_t two_classes(const struct map *map, uint32_t from, struct flood *flood)
 {
     uint32_t apart = 1;
-    memset(flood->mark, 0, map->darts);
-    reach(flood, 0, 1);
+    reach(flood, from, 1);
     while (flood->height > 0) {
         uint32_t dart = flood->stack[--flood->height];
         const uint16_t *links = links_of_dart(map, dart);
@@ -921,20 +999,41 @@ static struct fault test_reached(const struct flood *flood, uint32_t darts)
     return no_fault;
 }
 
-uint32_t ref_report(uint64_t dim, uint64_t darts, const uint16_t *tables, size_t tables_length, uint16_t *work,
-                    size_t work_length, uint32_t *answer)
+/* The bodies beside that of dart 0: how many; `apart` stays 1 if each of them has two classes. */
+static uint32_t other_bodies(const struct map *map, struct flood *flood, uint32_t *apart)
+{
+    uint32_t bodies = 0;
+    for (uint32_t d = 0; d < map->darts; d++)
+        if (flood->mark[d] == 0) {
+            *apart &= two_classes(map, d, flood);
+            bodies++;
+        }
+    return bodies;
+}
+
+/* Refusal 9, or 30 in the form of several bodies; else whether the map is orientable is told. */
+static struct fault test_bodies(const struct map *map, enum ref_form form, struct flood *flood, uint32_t *orientable)
+{
+    memset(flood->mark, 0, map->darts);
+    *orientable = two_classes(map, 0, flood);
+    if (form == REF_ONE_BODY)
+        return test_reached(flood, map->darts);
+    return other_bodies(map, flood, orientable) == 0 ? (struct fault){ 30, 0 } : no_fault;
+}
+
+static uint32_t report(const struct posting *p, uint32_t *answer)
 {
     static struct flood flood;
-    struct fault fault = test_numbers(dim, darts, 0, tables_length, work_length);
+    uint32_t orientable;
+    struct fault fault = test_numbers(p->dim, p->darts, p->root, p->tables_length, p->work_length);
     if (fault.number != 0)
         return answer_fault(answer, REPORT_ANSWER, fault);
-    struct map map = { (uint32_t)dim, (uint32_t)darts, tables };
+    struct map map = { (uint32_t)p->dim, (uint32_t)p->darts, p->tables };
     fault = test_tables(&map);
     if (fault.number != 0)
         return answer_fault(answer, REPORT_ANSWER, fault);
-    fill_no_link(work, 2 * darts);
-    uint32_t orientable = two_classes(&map, &flood);
-    fault = test_reached(&flood, map.darts);
+    fill_no_link(p->work, 2 * map.darts);
+    fault = test_bodies(&map, p->form, &flood, &orientable);
     answer_fault(answer, REPORT_ANSWER, fault);
     if (fault.number != 0)
         return fault.number;
@@ -943,4 +1042,18 @@ uint32_t ref_report(uint64_t dim, uint64_t darts, const uint16_t *tables, size_t
     answer[9] = count_free(&map);
     answer[10] = orientable;
     return 0;
+}
+
+uint32_t ref_report(uint64_t dim, uint64_t darts, const uint16_t *tables, size_t tables_length, uint16_t *work,
+                    size_t work_length, uint32_t *answer)
+{
+    struct posting posting = { REF_ONE_BODY, dim, darts, 0, tables, tables_length, work, work_length };
+    return report(&posting, answer);
+}
+
+uint32_t ref_report_bodies(uint64_t dim, uint64_t darts, const uint16_t *tables, size_t tables_length, uint16_t *work,
+                           size_t work_length, uint32_t *answer)
+{
+    struct posting posting = { REF_SEVERAL_BODIES, dim, darts, 0, tables, tables_length, work, work_length };
+    return report(&posting, answer);
 }

@@ -15,7 +15,7 @@
 #include <stddef.h>
 #include <stdint.h>
 
-enum { REF_RANKS = 7, REF_DARTS = 4096, REF_RECORD = 15 };
+enum { REF_RANKS = 7, REF_DARTS = 4096, REF_RECORD = 17 };
 
 /* A ring buffer of walk numbers. */
 struct ref_queue {
@@ -25,6 +25,8 @@ struct ref_queue {
 
 enum ref_state { REF_HEADER, REF_RUNNING, REF_COMPLETE, REF_CLOSED, REF_REFUSED };
 
+enum ref_form { REF_ONE_BODY, REF_SEVERAL_BODIES };
+
 struct ref_session {
     enum ref_state state;
     uint32_t number, place; /* of the refusal */
@@ -32,11 +34,16 @@ struct ref_session {
     uint32_t count;         /* darts that have a walk number */
     uint32_t steps;
     uint32_t bits, bit_count; /* bits that wait for the rest of a symbol or of the header */
+    enum ref_form form;       /* the header's; one body until it is accepted */
+    uint32_t bodies;          /* bodies begun */
     struct ref_queue queues[REF_RANKS];
 };
 
 uint32_t ref_check(uint64_t dim, uint64_t darts, uint64_t root, const uint16_t *tables, size_t tables_length,
                    uint16_t *work, size_t work_length, uint32_t *answer);
+
+uint32_t ref_check_bodies(uint64_t dim, uint64_t darts, uint64_t root, const uint16_t *tables, size_t tables_length,
+                          uint16_t *work, size_t work_length, uint32_t *answer);
 
 uint32_t ref_faces(const uint8_t *text, size_t text_length, uint16_t *tables, size_t tables_length, uint16_t *work,
                    size_t work_length, uint64_t *answer);
@@ -44,6 +51,10 @@ uint32_t ref_faces(const uint8_t *text, size_t text_length, uint16_t *tables, si
 uint32_t ref_write(uint64_t dim, uint64_t darts, uint64_t root, uint64_t start, const uint16_t *tables,
                    size_t tables_length, uint16_t *work, size_t work_length, uint8_t *out, size_t out_length,
                    uint32_t *answer);
+
+uint32_t ref_write_bodies(uint64_t dim, uint64_t darts, uint64_t root, uint64_t start, const uint16_t *tables,
+                          size_t tables_length, uint16_t *work, size_t work_length, uint8_t *out, size_t out_length,
+                          uint32_t *answer);
 
 uint32_t ref_read(const uint8_t *bytes, size_t bytes_length, uint16_t *tables, size_t tables_length, uint32_t *answer);
 
@@ -57,7 +68,10 @@ uint32_t ref_close(struct ref_session *session, uint16_t *tables, size_t tables_
 uint32_t ref_report(uint64_t dim, uint64_t darts, const uint16_t *tables, size_t tables_length, uint16_t *work,
                     size_t work_length, uint32_t *answer);
 
-/* The fifteen numbers that the library's record holds for the same session. */
+uint32_t ref_report_bodies(uint64_t dim, uint64_t darts, const uint16_t *tables, size_t tables_length, uint16_t *work,
+                           size_t work_length, uint32_t *answer);
+
+/* The seventeen numbers that the library's record holds for the same session. */
 void ref_record(const struct ref_session *session, uint32_t record[REF_RECORD]);
 
 #endif

@@ -12,9 +12,9 @@
 /* Checks. */
 
 static unsigned long checks, failures;
-static const char *what = "";   /* the case at hand */
-enum { NUMBERS = KZ_SIDE + 1 }; /* 0 and the refusal numbers */
-static int seen[NUMBERS];       /* those that some call has answered */
+static const char *what = "";       /* the case at hand */
+enum { NUMBERS = KZ_ONE_BODY + 1 }; /* 0 and the refusal numbers */
+static int seen[NUMBERS];           /* those that some call has answered */
 
 /* Is it 0 or a refusal's? Between them are two numbers that are not. */
 static int is_number(uint32_t number)
@@ -97,10 +97,15 @@ static void shorten(struct room *room, size_t size)
 #define SHORTEN(name, length) shorten(&name##_room, (size_t)(length) * sizeof *name)
 #define LENGTH(name) (name##_room.size / sizeof *name)
 
+/* The form in which the calls on a posted map are made. */
+enum form { ONE_BODY, SEVERAL_BODIES, FORMS };
+static enum form form;
+
 static void begin(const char *name)
 {
     int k;
     what = name;
+    form = ONE_BODY;
     for (k = 0; k < ROOMS; k++)
         lend(rooms[k], 0);
 }
@@ -205,12 +210,13 @@ static void see(uint32_t number)
         seen[number] = 1;
 }
 
-/* After every call that answers: the number is returned and stored, and it is one that such a call may give. */
-static void after_answer(uint32_t number, unsigned may_change, uint32_t least, uint32_t most)
+/* After every call that answers: the number is returned and stored, and `may_be_given` says that such a call may give
+   it. */
+static void after_answer(uint32_t number, unsigned may_change, int may_be_given)
 {
     after_call(may_change | 1u << ANSWER);
     CHECK(number == answer[0]);
-    CHECK(number == 0 || (number >= least && number <= most));
+    CHECK(may_be_given);
     see(number);
     if (number <= KZ_ROOT || number == KZ_UNFIT || number == KZ_CLOSED)
         CHECK(answer[1] == 0);
@@ -226,6 +232,17 @@ static int numbered_from(uint64_t root, uint64_t darts)
     return root < darts && work[root] == 0;
 }
 
+/* What the form refuses of a valid map: 9, several bodies, or 30, one body. */
+static uint32_t wrong_bodies(void)
+{
+    return form == ONE_BODY ? KZ_NOT_REACHED : KZ_ONE_BODY;
+}
+
+static int is_of_check(uint32_t number)
+{
+    return number <= KZ_MANIFOLD || number == wrong_bodies();
+}
+
 static void after_walk(uint32_t number, struct map m, uint64_t root)
 {
     if (number >= KZ_DIMENSION && number <= KZ_MANIFOLD) {
@@ -233,11 +250,18 @@ static void after_walk(uint32_t number, struct map m, uint64_t root)
         return;
     }
     CHECK(m.darts <= KZ_MAX_DARTS && 2 * m.darts <= LENGTH(work));
-    if (number == KZ_NOT_REACHED)
+    if (number == wrong_bodies())
         CHECK(no_link(work, 2 * m.darts));
     else
         CHECK(numbered_from(root, m.darts));
     CHECK(KEPT_FROM(work, 2 * m.darts));
+}
+
+/* Of a posted map 30 has no place. */
+static void after_posting(uint32_t number)
+{
+    if (number == KZ_ONE_BODY)
+        CHECK(answer[1] == 0);
 }
 
 static uint32_t call_check(struct map m, uint64_t root)
@@ -245,8 +269,12 @@ static uint32_t call_check(struct map m, uint64_t root)
     uint32_t number;
     LEND(answer, KZ_CHECK_ANSWER);
     before_call();
-    number = kz_check(m.dim, m.darts, root, posted, LENGTH(posted), work, LENGTH(work), answer);
-    after_answer(number, 1u << WORK, KZ_DIMENSION, KZ_NOT_REACHED);
+    if (form == ONE_BODY)
+        number = kz_check(m.dim, m.darts, root, posted, LENGTH(posted), work, LENGTH(work), answer);
+    else
+        number = kz_check_bodies(m.dim, m.darts, root, posted, LENGTH(posted), work, LENGTH(work), answer);
+    after_answer(number, 1u << WORK, is_of_check(number));
+    after_posting(number);
     after_walk(number, m, root);
     return number;
 }
@@ -273,7 +301,7 @@ static uint64_t darts_of_faces(uint32_t number)
 static void after_faces(uint32_t number)
 {
     struct map m = { 2, 0 };
-    CHECK(number == wide[0] && is_of_faces(number));
+    CHECK(form == ONE_BODY && number == wide[0] && is_of_faces(number));
     CHECK(wide[1] == 0 || number > KZ_SHORT_WORK);
     CHECK(wide[1] < LENGTH(text) || wide[1] == 0 || (number == KZ_WORD && wide[1] == LENGTH(text)));
     if (number != KZ_ACCEPTED)
@@ -306,9 +334,14 @@ static uint32_t call_write(struct map m, uint64_t root, uint64_t start)
     uint64_t left;
     LEND(answer, KZ_WRITE_ANSWER);
     before_call();
-    number =
-        kz_write(m.dim, m.darts, root, start, posted, LENGTH(posted), work, LENGTH(work), out, LENGTH(out), answer);
-    after_answer(number, 1u << WORK | 1u << OUT, KZ_DIMENSION, KZ_PAST_END);
+    if (form == ONE_BODY)
+        number = kz_write(m.dim, m.darts, root, start, posted, LENGTH(posted), work, LENGTH(work), out, LENGTH(out),
+                          answer);
+    else
+        number = kz_write_bodies(m.dim, m.darts, root, start, posted, LENGTH(posted), work, LENGTH(work), out,
+                                 LENGTH(out), answer);
+    after_answer(number, 1u << WORK | 1u << OUT, is_of_check(number) || number == KZ_PAST_END);
+    after_posting(number);
     after_walk(number, m, root);
     CHECK(KEPT_FROM(out, answer[2]));
     if (number != 0) {
@@ -326,10 +359,13 @@ static uint32_t call_report(struct map m)
     int k;
     LEND(answer, KZ_REPORT_ANSWER);
     before_call();
-    number = kz_report(m.dim, m.darts, posted, LENGTH(posted), work, LENGTH(work), answer);
-    after_answer(number, 1u << WORK, KZ_DIMENSION, KZ_NOT_REACHED);
-    CHECK(number != KZ_ROOT);
-    if (number == 0 || number == KZ_NOT_REACHED)
+    if (form == ONE_BODY)
+        number = kz_report(m.dim, m.darts, posted, LENGTH(posted), work, LENGTH(work), answer);
+    else
+        number = kz_report_bodies(m.dim, m.darts, posted, LENGTH(posted), work, LENGTH(work), answer);
+    after_answer(number, 1u << WORK, is_of_check(number) && number != KZ_ROOT);
+    after_posting(number);
+    if (number == 0 || number == wrong_bodies())
         CHECK(no_link(work, 2 * m.darts) && KEPT_FROM(work, 2 * m.darts));
     else
         CHECK(KEPT(work));
@@ -341,53 +377,75 @@ static uint32_t call_report(struct map m)
 
 static const uint32_t opened[KZ_RECORD]; /* the header state with all numbers 0 */
 
-/* The (N+1)*n of the header, from the record or else from the first two bytes; 0 while they are not all there. */
-static size_t header_entries(const uint32_t *given, const uint8_t *bytes, size_t length)
+/* What the header says. */
+struct header {
+    size_t entries; /* (N+1)*n */
+    uint32_t form;
+};
+
+/* The header from the record, or else from the first two bytes; all 0 while they are not both there. */
+static struct header header_of(const uint32_t *given, const uint8_t *bytes, size_t length)
 {
+    struct header h = { 0, 0 };
     uint32_t first, second;
     size_t held = given[13] == 8;
-    if (given[0] != 0)
-        return (size_t)(given[3] + 1) * given[4];
-    if (held + length < 2)
-        return 0;
-    first = held ? given[14] : bytes[0];
-    second = bytes[1 - held];
-    return (size_t)((first >> 4) + 1) * ((first & 15) * 256 + second + 1);
+    if (given[0] != 0) {
+        h.entries = (size_t)(given[3] + 1) * given[4];
+        h.form = given[15];
+    } else if (held + length >= 2) {
+        first = held ? given[14] : bytes[0];
+        second = bytes[1 - held];
+        h.entries = (size_t)((first >> 4 & 7) + 1) * ((first & 15) * 256 + second + 1);
+        h.form = first >> 7;
+    }
+    return h;
 }
 
 /* The numbers that a reading finds; 12 is none of them. */
 static int is_found(uint32_t number)
 {
     return number == KZ_DIMENSION || number == KZ_SHORT_TABLES || number == KZ_CUT ||
-           (number >= KZ_TOO_MANY && number <= KZ_BYTE_AFTER) || (number >= KZ_NOT_NUMBERED && number <= KZ_LINKED);
+           (number >= KZ_TOO_MANY && number <= KZ_BYTE_AFTER) ||
+           (number >= KZ_NOT_NUMBERED && number <= KZ_LINKED) || number == KZ_ONE_BODY;
 }
 
-/* After a reading call that was not answered 19, 20 or by a refusal of before. */
-static void after_reading(uint32_t number, size_t entries)
+/* Those that a session is answered by. */
+static int is_of_session(uint32_t number)
+{
+    return number == 0 || is_found(number) || number == KZ_INDEX || number == KZ_UNFIT || number == KZ_CLOSED;
+}
+
+/* After a reading call that was not answered 19, 20 or by a refusal of before. 15 is of the one form, 30 of the
+   other, with all steps done. */
+static void after_reading(uint32_t number, struct header h)
 {
     CHECK(number == 0 || is_found(number));
     if (number == KZ_DIMENSION || number == KZ_SHORT_TABLES)
         CHECK(KEPT(built));
     else
-        CHECK(KEPT_FROM(built, entries));
+        CHECK(KEPT_FROM(built, h.entries));
     if (number >= KZ_CUT)
-        CHECK(entries <= LENGTH(built) && no_link(built, entries));
+        CHECK(h.entries <= LENGTH(built) && no_link(built, h.entries));
     if (number != 0)
         CHECK(answer[2] == answer[1] && answer[3] == 0 && answer[4] == 0);
+    if (number == KZ_TOO_FEW)
+        CHECK(h.form == ONE_BODY && answer[1] < h.entries);
+    if (number == KZ_ONE_BODY)
+        CHECK(h.form == SEVERAL_BODIES && answer[1] == h.entries);
 }
 
 static uint32_t call_read(void)
 {
-    size_t entries = header_entries(opened, page, LENGTH(page));
+    struct header h = header_of(opened, page, LENGTH(page));
     uint32_t number;
     LEND(answer, KZ_READ_ANSWER);
     before_call();
     number = kz_read(page, LENGTH(page), built, LENGTH(built), answer);
-    after_answer(number, 1u << BUILT, KZ_DIMENSION, KZ_LINKED);
-    after_reading(number, entries);
+    after_answer(number, 1u << BUILT, number == 0 || is_found(number));
+    after_reading(number, h);
     if (number == 0) {
-        CHECK(answer[2] == entries && (answer[3] + 1) * answer[4] == entries);
-        CHECK(entries <= LENGTH(built) && all_below(built, entries, answer[4]));
+        CHECK(answer[2] == h.entries && (answer[3] + 1) * answer[4] == h.entries);
+        CHECK(h.entries <= LENGTH(built) && all_below(built, h.entries, answer[4]));
     }
     return number;
 }
@@ -407,7 +465,19 @@ static int answered_as_before(uint32_t number)
     return number == KZ_UNFIT || number == KZ_CLOSED || record_was[0] == 4;
 }
 
-static void after_session(uint32_t number, size_t entries)
+/* Form and bodies of a record that was not refused: 0 before the header, and then the header's form and at least one
+   body, of as many as there are darts numbered. */
+static void after_bodies(struct header h)
+{
+    if (record[0] == 0) {
+        CHECK(record[15] == 0 && record[16] == 0);
+        return;
+    }
+    CHECK(record[15] == h.form && record[16] >= 1 && record[16] >= record_was[16]);
+    CHECK(record[16] <= (record[15] == SEVERAL_BODIES ? record[5] : 1));
+}
+
+static void after_session(uint32_t number, struct header h)
 {
     uint32_t steps = 0;
     int k;
@@ -417,7 +487,7 @@ static void after_session(uint32_t number, size_t entries)
         CHECK(number == KZ_UNFIT || number == KZ_CLOSED || (number == record_was[1] && answer[1] == record_was[2]));
         return;
     }
-    after_reading(number, entries);
+    after_reading(number, h);
     if (number != 0) {
         CHECK(record[0] == 4 && record[1] == number && record[2] == answer[1]);
         CHECK(same_numbers(record + 3, opened, KZ_RECORD - 3));
@@ -428,6 +498,7 @@ static void after_session(uint32_t number, size_t entries)
     CHECK(record[0] <= 3 && record[1] == 0 && record[2] == 0);
     CHECK(answer[2] == steps && answer[3] == record[3] && answer[4] == record[4]);
     CHECK(record[13] <= 13 && record[14] < 1u << record[13]);
+    after_bodies(h);
 }
 
 /* The bytes to fetch, by the record that a page leaves and its number: of a header those that are not there, of a
@@ -446,8 +517,8 @@ static uint32_t call_page(void)
     LEND(answer, KZ_PAGE_ANSWER);
     before_call();
     number = kz_page(record, page, LENGTH(page), built, LENGTH(built), answer);
-    after_answer(number, 1u << RECORD | 1u << BUILT, KZ_DIMENSION, KZ_LINKED);
-    after_session(number, header_entries(record_was, page, LENGTH(page)));
+    after_answer(number, 1u << RECORD | 1u << BUILT, is_of_session(number));
+    after_session(number, header_of(record_was, page, LENGTH(page)));
     CHECK(number != KZ_CUT || record_was[0] == 4);
     CHECK(number != 0 || record[0] <= 2);
     CHECK(answer[5] == bytes_to_fetch(number));
@@ -460,8 +531,8 @@ static uint32_t call_close(void)
     LEND(answer, KZ_READ_ANSWER);
     before_call();
     number = kz_close(record, built, LENGTH(built), answer);
-    after_answer(number, 1u << RECORD | 1u << BUILT, KZ_DIMENSION, KZ_LINKED);
-    after_session(number, header_entries(record_was, page, 0));
+    after_answer(number, 1u << RECORD | 1u << BUILT, is_of_session(number));
+    after_session(number, header_of(record_was, page, 0));
     CHECK(number == 0 || number == KZ_CUT || answered_as_before(number));
     if (number == 0)
         CHECK(record[0] == 3 && KEPT_FROM(record, 1) && KEPT(built));

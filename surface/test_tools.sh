@@ -52,10 +52,28 @@ band=$(
   printf '%s\n' 'cells 2 3 1' 'free 4' 'steps 24' 'orientable no'
 )
 
-# A refusal prints one line, a listing ends with whether the map is orientable, streams beyond 50,178 bytes are read in
-# full, and a stream of several pages is listed whole, from standard input and from a file.
-test_listing() {
+# Two lone darts in one stream, and the square and the band: the report is that of both, and the band is not orientable.
+lone_darts=$(printf '%s\n' 'dimension 1 darts 2' '0 0 0' '1 1 1' 'cells 2 2' 'free 4' 'steps 4' 'orientable yes')
+square_and_band=$(
+  printf '%s\n' 'dimension 2 darts 16' '0 1 2 0' '1 0 4 1' '2 3 0 2' '3 2 6 3' '4 5 1 4' '5 4 7 5' '6 7 3 6' '7 6 5 7'
+  printf '%s\n' '8 9 10 15' '9 8 12 14' '10 11 8 10' '11 10 14 11' '12 13 9 12' '13 12 15 13' '14 15 11 9' '15 14 13 8'
+  printf '%s\n' 'cells 6 7 2' 'free 12' 'steps 48' 'orientable no'
+)
+
+# lists_longest LENGTH WORD...: the stream that longest.c gives for these words has this length and is listed whole,
+# from standard input and from a file.
+lists_longest() {
   local text
+  run longest stream "${@:2}" >"$build/longest.stream"
+  [ "$(wc -c <"$build/longest.stream")" -eq "$1" ] || stop "the longest stream is not of $1 bytes"
+  text=$(run longest text "${@:2}")
+  lists 0 "$text" "$root/run" <"$build/longest.stream"
+  lists 0 "$text" "$root/run" "$build/longest.stream" </dev/null
+}
+
+# A refusal prints one line, a listing ends with whether the map is orientable, streams beyond 50,178 bytes are read in
+# full, and a stream of several pages is listed whole, in both forms.
+test_listing() {
   bring_program
   printf '\x20\x07\x01\x80\x3D\x50' | lists 0 "$square" "$root/run"
   printf '\x20\x07\x01\x80\x3E\x00\xF4' | lists 0 "$band" "$root/run"
@@ -64,13 +82,18 @@ test_listing() {
   printf '\x10\x02\x60\x0A' | lists 1 'refused 21 at 2' "$root/run"
   printf '\x10\x01\xC0\x00' | lists 1 'refused 22 at 0' "$root/run"
   printf '\x10\x03\x18\x00\x00' | lists 1 'refused 23 at 5' "$root/run"
+  printf '\x90\x01\xAA' | lists 0 "$lone_darts" "$root/run"
+  printf '\xA0\x0F\x01\x80\x3D\x50\x0C\x03\xF0\x0F\xA0' | lists 0 "$square_and_band" "$root/run"
+  printf '\x90\x01\x50' | lists 1 'refused 30 at 4' "$root/run"
+  printf '\x90\x01\xA0' | lists 1 'refused 13 at 2' "$root/run"
+  printf '\x90\x02\xAA' | lists 1 'refused 11 at 4' "$root/run"
+  printf '\x80\x01\xAA' | lists 1 'refused 1 at 0' "$root/run"
+  printf '\xF0\x01\xAA' | lists 1 'refused 1 at 0' "$root/run"
+  { printf '\x90\x01\xAA'; head -c 60000 /dev/zero; } | lists 1 'refused 18 at 4' "$root/run"
   { printf '\x10\x00\xA0'; head -c 60000 /dev/zero; } | lists 1 'refused 18 at 2' "$root/run"
   { printf '\x1F\xFF'; head -c 60000 /dev/zero; } | lists 1 'refused 13 at 8189' "$root/run"
-  run longest stream >"$build/longest.stream"
-  [ "$(wc -c <"$build/longest.stream")" -eq 14854 ] || stop "the longest stream is not of 14,854 bytes"
-  text=$(run longest text)
-  lists 0 "$text" "$root/run" <"$build/longest.stream"
-  lists 0 "$text" "$root/run" "$build/longest.stream" </dev/null
+  lists_longest 21762 bodies
+  lists_longest 14854
   refuses_words "$root/run" </dev/null
   say "the listing program prints what it is to print"
 }
@@ -94,6 +117,15 @@ torus_text() {
   }'
 }
 
+# squares_text: as many squares as a map may have, none of which has a side with another in common.
+squares_text() {
+  awk 'BEGIN {
+    print "OFF\n2048 512 2048"
+    for (v = 0; v < 2048; v++) print v, 0, 0
+    for (f = 0; f < 2048; f += 4) print 4, f, f + 1, f + 2, f + 3
+  }'
+}
+
 # summary: how ./run lists standard input, but for the lines of the darts.
 summary() { "$root/run" | sed '/^[0-9]/d'; }
 
@@ -108,16 +140,21 @@ posts() {
 # listing DARTS CELLS FREE STEPS ORIENTABLE: what a summary says of a map of dimension 2.
 listing() { printf 'dimension 2 darts %s\ncells %s\nfree %s\nsteps %s\norientable %s\n' "$@"; }
 
-# From OFF text to a stream, and by ./run to its listing. A refused text prints its line and gives no stream.
+# From OFF text to a stream, and by ./run to its listing; faces that do not hang together give one of several bodies. A
+# refused text prints its line and gives no stream.
 test_off() {
   local flat='OFF 4 1 4 0 0 0 1 0 0 1 1 0 0 1 0'
   local strip='OFF 6 3 9 0 0 0 1 0 0 2 0 0 3 0 0 4 0 0 5 0 0'
+  local two='OFF 6 2 6 0 0 0 1 0 0 2 0 0 3 0 0 4 0 0 5 0 0'
   printf '%s\n' "$flat" '4 0 1 2 3' | posts "$square" "$root/run"
   cube_text 6 | posts "$(listing 48 '8 12 6' 0 144 yes)" summary
   cube_text 5 | posts "$(listing 40 '8 12 5' 8 120 yes)" summary
   printf '%s\n' "$strip" '4 0 1 3 2' '4 2 3 5 4' '4 4 5 0 1' | posts "$(listing 24 '6 9 3' 12 72 no)" summary
   torus_text | posts "$(listing 4096 '512 1024 512' 0 12288 yes)" summary
   [ "$(wc -c <"$build/off.stream")" -gt 1024 ] || stop "the stream of the torus has one page only"
+  printf '%s\n' "$two" '3 0 1 2' '3 3 4 5' | posts "$(listing 12 '6 6 2' 12 36 yes)" summary
+  squares_text | posts "$(listing 4096 '2048 2048 512' 4096 12288 yes)" summary
+  [ "$(wc -c <"$build/off.stream")" -gt 1024 ] || stop "the stream of the squares has one page only"
   printf '%s\n' "$flat" '4 0 1 2 2' | ends 1 run off
   said_no out
   said err '^refused 28 at 0: a face has fewer than three corners or two equal neighbours (place: the face,'

@@ -8,6 +8,10 @@
 //! ai(d) = d says that dart d is free at rank i. In tables that are being read, [`NO_LINK`] says "no link yet".
 //! `include/kanzhulet.h` says in full what each call stores; this wrapper calls it and adds no behaviour.
 //!
+//! A body is all that some dart reaches by links; a connected map is one body. [`check`], [`write()`] and [`report`]
+//! take maps of one body, [`check_bodies`], [`write_bodies`] and [`report_bodies`] those of several, whose streams have
+//! a form of their own. [`read`] and a [`Session`] take streams of both forms, and [`Session::form`] tells which it is.
+//!
 //! Every call takes all values of its numbers and all contents of its slices, and allocates nothing. A call that is not
 //! accepted gives a [`Refusal`].
 //!
@@ -44,15 +48,26 @@ pub const MAX_STREAM: usize = 50178;
 /// The entry that says "no link yet".
 pub const NO_LINK: u16 = 65535;
 /// How many numbers a session's record has.
-pub const RECORD: usize = 15;
+pub const RECORD: usize = 17;
 
 mod surface {
     //! The calls of `kanzhulet.h`.
 
+    use super::RECORD;
     use std::os::raw::c_char;
 
     extern "C" {
         pub fn kz_check(
+            dim: u64,
+            darts: u64,
+            root: u64,
+            tables: *const u16,
+            tables_length: usize,
+            work: *mut u16,
+            work_length: usize,
+            answer: *mut [u32; 2],
+        ) -> u32;
+        pub fn kz_check_bodies(
             dim: u64,
             darts: u64,
             root: u64,
@@ -84,6 +99,19 @@ mod surface {
             out_length: usize,
             answer: *mut [u32; 4],
         ) -> u32;
+        pub fn kz_write_bodies(
+            dim: u64,
+            darts: u64,
+            root: u64,
+            start: u64,
+            tables: *const u16,
+            tables_length: usize,
+            work: *mut u16,
+            work_length: usize,
+            out: *mut u8,
+            out_length: usize,
+            answer: *mut [u32; 4],
+        ) -> u32;
         pub fn kz_read(
             bytes: *const u8,
             bytes_length: usize,
@@ -91,17 +119,31 @@ mod surface {
             tables_length: usize,
             answer: *mut [u32; 5],
         ) -> u32;
-        pub fn kz_open(record: *mut [u32; 15]);
+        pub fn kz_open(record: *mut [u32; RECORD]);
         pub fn kz_page(
-            record: *mut [u32; 15],
+            record: *mut [u32; RECORD],
             bytes: *const u8,
             bytes_length: usize,
             tables: *mut u16,
             tables_length: usize,
             answer: *mut [u32; 6],
         ) -> u32;
-        pub fn kz_close(record: *mut [u32; 15], tables: *mut u16, tables_length: usize, answer: *mut [u32; 5]) -> u32;
+        pub fn kz_close(
+            record: *mut [u32; RECORD],
+            tables: *mut u16,
+            tables_length: usize,
+            answer: *mut [u32; 5],
+        ) -> u32;
         pub fn kz_report(
+            dim: u64,
+            darts: u64,
+            tables: *const u16,
+            tables_length: usize,
+            work: *mut u16,
+            work_length: usize,
+            answer: *mut [u32; 11],
+        ) -> u32;
+        pub fn kz_report_bodies(
             dim: u64,
             darts: u64,
             tables: *const u16,
@@ -118,7 +160,7 @@ mod surface {
 /// steps of a reading, which are the place.
 #[derive(Clone, Copy, Debug, PartialEq, Eq)]
 pub struct Refusal {
-    /// The refusal number, 1 to 23 or 26 to 29, as `kanzhulet.h` lists them.
+    /// The refusal number, 1 to 23 or 26 to 30, as `kanzhulet.h` lists them.
     pub number: u32,
     /// The place that goes with the number: a position in the tables, as [`place`](place()) gives it, a dart, a
     /// stream's length or the steps done; of a face file a byte of the text or the number of a face.
@@ -142,7 +184,7 @@ impl fmt::Display for Refusal {
 
 impl Error for Refusal {}
 
-/// The answer of an accepted [`check`]: the numbering that the work room holds.
+/// The answer of an accepted [`check`] or [`check_bodies`]: the numbering that the work room holds.
 #[derive(Clone, Copy, Debug, PartialEq, Eq)]
 pub struct CheckAnswer<'a> {
     /// The walk number of each dart.
@@ -158,7 +200,7 @@ pub struct FacesAnswer {
     pub darts: usize,
 }
 
-/// The answer of an accepted [`write()`].
+/// The answer of an accepted [`write()`] or [`write_bodies`].
 #[derive(Clone, Copy, Debug, PartialEq, Eq)]
 pub struct WriteAnswer {
     /// How many bytes were written, from the beginning of the output.
@@ -189,7 +231,7 @@ pub struct PageAnswer {
     pub fetch: usize,
 }
 
-/// The answer of an accepted [`report`].
+/// The answer of an accepted [`report`] or [`report_bodies`].
 #[derive(Clone, Copy, Debug, PartialEq, Eq)]
 pub struct ReportAnswer {
     /// The number of i-cells at place i, 0 past the dimension.
@@ -214,6 +256,15 @@ pub enum State {
     Closed,
     /// The session was refused, and repeats the refusal.
     Refused(Refusal),
+}
+
+/// The form of a stream, which its first bit tells.
+#[derive(Clone, Copy, Debug, PartialEq, Eq)]
+pub enum Form {
+    /// Of a connected map: the first four bits are N.
+    OneBody,
+    /// Of a map of two or more bodies: the first four bits are 8+N.
+    SeveralBodies,
 }
 
 /// The position of ai(d) in the tables of a map of dimension N: d·(N+1) + i. Refusals 6 and 7 tell such a position; its
@@ -244,12 +295,11 @@ fn reading(number: u32, answer: [u32; 5]) -> Result<ReadAnswer, Refusal> {
     Ok(ReadAnswer { steps: steps as usize, dim: dim as usize, darts: darts as usize })
 }
 
-/// The check of posted tables, from a root: are they a valid connected map? Needs (N+1)·n entries of tables and 2n of
-/// work room; longer slices are allowed, and what is past these is neither read nor written.
-///
-/// Refused by 1 to 9. Of several links that fail, 6 and 7 tell the first by rank, then dart. After 1 to 8 the work room
-/// is unchanged, after 9 its first 2n entries are [`NO_LINK`].
-pub fn check<'a>(
+/// `kz_check` or `kz_check_bodies`.
+type CheckCall = unsafe extern "C" fn(u64, u64, u64, *const u16, usize, *mut u16, usize, *mut [u32; 2]) -> u32;
+
+fn check_by<'a>(
+    call: CheckCall,
     dim: usize,
     darts: usize,
     root: usize,
@@ -261,7 +311,7 @@ pub fn check<'a>(
     // slice that is borrowed over the call. What the call may write is borrowed as mutable, so it overlaps nothing else
     // and no other thread touches it.
     let number = unsafe {
-        surface::kz_check(
+        call(
             dim as u64,
             darts as u64,
             root as u64,
@@ -277,6 +327,44 @@ pub fn check<'a>(
     Ok(CheckAnswer { walk_numbers, darts: &rest[..darts] })
 }
 
+/// The check of posted tables, from a root: are they a valid connected map? Needs (N+1)·n entries of tables and 2n of
+/// work room; longer slices are allowed, and what is past these is neither read nor written.
+///
+/// Refused by 1 to 9. Of several links that fail, 6 and 7 tell the first by rank, then dart. After 1 to 8 the work room
+/// is unchanged, after 9 its first 2n entries are [`NO_LINK`].
+pub fn check<'a>(
+    dim: usize,
+    darts: usize,
+    root: usize,
+    tables: &[u16],
+    work: &'a mut [u16],
+) -> Result<CheckAnswer<'a>, Refusal> {
+    check_by(surface::kz_check, dim, darts, root, tables, work)
+}
+
+/// The check of a map of several bodies: are the tables a valid map of at least two? The root's body is numbered first;
+/// each next one begins at the least dart that has no walk number yet. Tables and work room are as for [`check`].
+///
+/// Refused by 1 to 8 as [`check`], then by 30, at 0, if there is one body only, which leaves the work room as 9 does. 9
+/// is never given.
+///
+/// ```
+/// // Dimension 1, two darts that nothing joins.
+/// let (apart, mut work) = ([0, 0, 1, 1], [0; 4]);
+/// assert_eq!(kanzhulet::check(1, 2, 1, &apart, &mut work).unwrap_err().number, 9);
+/// assert_eq!(kanzhulet::check_bodies(1, 2, 1, &apart, &mut work)?.walk_numbers, [1, 0]);
+/// # Ok::<(), kanzhulet::Refusal>(())
+/// ```
+pub fn check_bodies<'a>(
+    dim: usize,
+    darts: usize,
+    root: usize,
+    tables: &[u16],
+    work: &'a mut [u16],
+) -> Result<CheckAnswer<'a>, Refusal> {
+    check_by(surface::kz_check_bodies, dim, darts, root, tables, work)
+}
+
 /// Posting from a face file: reads OFF text into the tables of a map of dimension 2 and checks it from root 0.
 /// `kanzhulet.h` says what such a text is. Corners are numbered over all faces in file order; corner c gives the darts
 /// 2c, at its own vertex, and 2c+1, at the next corner of its face. Needs 3n entries of tables and 2n of work room;
@@ -284,7 +372,7 @@ pub fn check<'a>(
 ///
 /// Refused by 26 over the whole text, at a byte of it or its length; then face by face, at the face's number from 0, by
 /// 27, 28 and 29; then by 2, 3, 4 and 9. After an accepted call and after 9 the tables hold the map, and the work room
-/// is as after [`check`]; every other refusal leaves both unchanged.
+/// is as after [`check`]; every other refusal leaves both unchanged. A map refused by 9 goes out by [`write_bodies`].
 ///
 /// ```
 /// let text = b"OFF 4 4 6 # a tetrahedron\n0 0 0\n1 0 0\n0 1 0\n0 0 1\n3 0 2 1\n3 0 1 3\n3 1 2 3\n3 2 0 3\n";
@@ -298,7 +386,7 @@ pub fn check<'a>(
 /// ```
 pub fn faces(text: &[u8], tables: &mut [u16], work: &mut [u16]) -> Result<FacesAnswer, Refusal> {
     let mut answer = [0; 3];
-    // SAFETY: as in `check`; the call may write the tables too, which are borrowed as mutable.
+    // SAFETY: as in `check_by`; the call may write the tables too, which are borrowed as mutable.
     let number = unsafe {
         surface::kz_faces(
             text.as_ptr(),
@@ -315,25 +403,25 @@ pub fn faces(text: &[u8], tables: &mut [u16], work: &mut [u16]) -> Result<FacesA
     Ok(FacesAnswer { darts: darts as usize })
 }
 
-/// The paged writer: the bytes of the map's stream from byte `start` on, as many as `out` holds or the stream has. A
-/// start equal to the length is accepted and writes nothing. Tables and work room are as for [`check`].
-///
-/// Refused by 1 to 9 as [`check`], then by 10, at the stream's length, if the start is past it. A refusal leaves `out`
-/// unchanged. After an accepted call and after 10 the first n entries of the work room are each dart's walk number, the
-/// next n the dart of each number.
-pub fn write(
+/// `kz_write` or `kz_write_bodies`.
+type WriteCall =
+    unsafe extern "C" fn(u64, u64, u64, u64, *const u16, usize, *mut u16, usize, *mut u8, usize, *mut [u32; 4]) -> u32;
+
+/// A map that is posted, and the root and start of a page.
+struct Posting<'a> {
     dim: usize,
     darts: usize,
     root: usize,
     start: usize,
-    tables: &[u16],
-    work: &mut [u16],
-    out: &mut [u8],
-) -> Result<WriteAnswer, Refusal> {
+    tables: &'a [u16],
+}
+
+fn write_by(call: WriteCall, posting: Posting, work: &mut [u16], out: &mut [u8]) -> Result<WriteAnswer, Refusal> {
+    let Posting { dim, darts, root, start, tables } = posting;
     let mut answer = [0; 4];
-    // SAFETY: as in `check`; `out` too is borrowed as mutable over the call.
+    // SAFETY: as in `check_by`; `out` too is borrowed as mutable over the call.
     let number = unsafe {
-        surface::kz_write(
+        call(
             dim as u64,
             darts as u64,
             root as u64,
@@ -352,37 +440,68 @@ pub fn write(
     Ok(WriteAnswer { written: written as usize, length: length as usize })
 }
 
-/// One whole read: accepts exactly the streams that some valid connected map within the limits has from some root, and
-/// builds that map under its walk numbering in the first (N+1)·n entries of the tables.
+/// The paged writer: the bytes of the map's stream from byte `start` on, as many as `out` holds or the stream has. A
+/// start equal to the length is accepted and writes nothing. Tables and work room are as for [`check`].
 ///
-/// Refused by 1, 3, 11, 13 to 18 and 21 to 23. A dart that the stream names and may not is refused by its cause: 21, it
-/// has no number yet; 22, it is the dart itself; 23, it has a link at this rank already. Once a header is accepted, a
-/// refusal leaves [`NO_LINK`] in the first (N+1)·n entries; before, it leaves the tables unchanged.
+/// Refused by 1 to 9 as [`check`], then by 10, at the stream's length, if the start is past it. A refusal leaves `out`
+/// unchanged. After an accepted call and after 10 the first n entries of the work room are each dart's walk number, the
+/// next n the dart of each number.
+pub fn write(
+    dim: usize,
+    darts: usize,
+    root: usize,
+    start: usize,
+    tables: &[u16],
+    work: &mut [u16],
+    out: &mut [u8],
+) -> Result<WriteAnswer, Refusal> {
+    write_by(surface::kz_write, Posting { dim, darts, root, start, tables }, work, out)
+}
+
+/// The paged writer of a map of several bodies, in the form of several bodies: as [`write()`], but with the refusals
+/// and the numbering of [`check_bodies`].
+pub fn write_bodies(
+    dim: usize,
+    darts: usize,
+    root: usize,
+    start: usize,
+    tables: &[u16],
+    work: &mut [u16],
+    out: &mut [u8],
+) -> Result<WriteAnswer, Refusal> {
+    write_by(surface::kz_write_bodies, Posting { dim, darts, root, start, tables }, work, out)
+}
+
+/// One whole read: accepts exactly the streams that some valid map within the limits has from some root, a connected
+/// one in the form of one body and one of at least two bodies in the form of several, and builds that map under its
+/// walk numbering in the first (N+1)·n entries of the tables.
+///
+/// Refused by 1, 3, 11, 13 to 18, 21 to 23 and 30. A dart that the stream names and may not is refused by its cause:
+/// 21, it has no number yet; 22, it is the dart itself; 23, it has a link at this rank already. 30, in 15's place, is
+/// for a stream in the form of several bodies that has one only. Once a header is accepted, a refusal leaves
+/// [`NO_LINK`] in the first (N+1)·n entries; before, it leaves the tables unchanged.
 pub fn read(bytes: &[u8], tables: &mut [u16]) -> Result<ReadAnswer, Refusal> {
     let mut answer = [0; 5];
-    // SAFETY: as in `check`; the call may write the tables, which are borrowed as mutable.
+    // SAFETY: as in `check_by`; the call may write the tables, which are borrowed as mutable.
     let number =
         unsafe { surface::kz_read(bytes.as_ptr(), bytes.len(), tables.as_mut_ptr(), tables.len(), &mut answer) };
     reading(number, answer)
 }
 
-/// The cell report of a map. Tables and work room are as for [`check`].
-///
-/// Refused by 1 to 4 and 6 to 9, as [`check`] with root 0. After an accepted call the first 2n entries of the work room
-/// are [`NO_LINK`].
-pub fn report(dim: usize, darts: usize, tables: &[u16], work: &mut [u16]) -> Result<ReportAnswer, Refusal> {
+/// `kz_report` or `kz_report_bodies`.
+type ReportCall = unsafe extern "C" fn(u64, u64, *const u16, usize, *mut u16, usize, *mut [u32; 11]) -> u32;
+
+fn report_by(
+    call: ReportCall,
+    dim: usize,
+    darts: usize,
+    tables: &[u16],
+    work: &mut [u16],
+) -> Result<ReportAnswer, Refusal> {
     let mut answer = [0; 11];
-    // SAFETY: as in `check`.
+    // SAFETY: as in `check_by`.
     let number = unsafe {
-        surface::kz_report(
-            dim as u64,
-            darts as u64,
-            tables.as_ptr(),
-            tables.len(),
-            work.as_mut_ptr(),
-            work.len(),
-            &mut answer,
-        )
+        call(dim as u64, darts as u64, tables.as_ptr(), tables.len(), work.as_mut_ptr(), work.len(), &mut answer)
     };
     let [_, place, c0, c1, c2, c3, c4, c5, c6, free, orientable] = answer;
     accepted(number, place)?;
@@ -391,6 +510,22 @@ pub fn report(dim: usize, darts: usize, tables: &[u16], work: &mut [u16]) -> Res
         free: free as usize,
         orientable: orientable == 1,
     })
+}
+
+/// The cell report of a map. Tables and work room are as for [`check`].
+///
+/// Refused by 1 to 4 and 6 to 9, as [`check`] with root 0. After an accepted call the first 2n entries of the work room
+/// are [`NO_LINK`].
+pub fn report(dim: usize, darts: usize, tables: &[u16], work: &mut [u16]) -> Result<ReportAnswer, Refusal> {
+    report_by(surface::kz_report, dim, darts, tables, work)
+}
+
+/// The cell report of a map of several bodies: cells and free pairs over all of them, orientable if every one is.
+/// Tables and work room are as for [`report`].
+///
+/// Refused by 1 to 4, 6 to 8 and 30, as [`check_bodies`] with root 0.
+pub fn report_bodies(dim: usize, darts: usize, tables: &[u16], work: &mut [u16]) -> Result<ReportAnswer, Refusal> {
+    report_by(surface::kz_report_bodies, dim, darts, tables, work)
 }
 
 /// A session reads one stream by pages of any sizes: open, any number of pages, close. The caller lends the same tables
@@ -475,7 +610,31 @@ impl Session {
         }
     }
 
-    /// The fifteen numbers that are the session, as `kanzhulet.h` lists them. Together with the tables they may be
+    /// The form of the stream, which its header tells: [`Form::OneBody`] until one is accepted and when the session is
+    /// refused; `None` if the record came from elsewhere and has no such form.
+    ///
+    /// ```
+    /// // Two darts that nothing joins, in dimension 1.
+    /// let (mut session, mut tables) = (kanzhulet::Session::open(), [0; 4]);
+    /// session.page(&[0x90, 0x01, 0xAA], &mut tables)?;
+    /// assert_eq!((session.form(), session.bodies()), (Some(kanzhulet::Form::SeveralBodies), 2));
+    /// # Ok::<(), kanzhulet::Refusal>(())
+    /// ```
+    pub fn form(&self) -> Option<Form> {
+        match self.record[15] {
+            0 => Some(Form::OneBody),
+            1 => Some(Form::SeveralBodies),
+            _ => None,
+        }
+    }
+
+    /// How many bodies have begun: 0 until a header is accepted and when the session is refused; of a stream that was
+    /// read to its end, how many it has.
+    pub fn bodies(&self) -> usize {
+        self.record[16] as usize
+    }
+
+    /// The seventeen numbers that are the session, as `kanzhulet.h` lists them. Together with the tables they may be
     /// stored and carried on later, by another process too.
     pub fn record(&self) -> [u32; RECORD] {
         self.record

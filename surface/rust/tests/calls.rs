@@ -5,10 +5,11 @@ mod maps;
 mod rooms;
 
 use kanzhulet::{
-    FacesAnswer, PageAnswer, ReadAnswer, Refusal, ReportAnswer, State, WriteAnswer, MAX_DARTS, MAX_STREAM, MAX_TABLES,
-    MAX_WORK, NO_LINK, RECORD,
+    FacesAnswer, Form, PageAnswer, ReadAnswer, Refusal, ReportAnswer, State, WriteAnswer, MAX_DARTS, MAX_STREAM,
+    MAX_TABLES, MAX_WORK, NO_LINK, RECORD,
 };
-use maps::{post_chain, post_free, post_grid, post_pairs, post_ring, post_squares, tie, Sample, SAMPLES};
+use maps::{loop_and_chain, post_chain, post_couples, post_free, post_grid, post_pairs, post_ring, post_squares, tie};
+use maps::{Sample, SAMPLES, SITES};
 use rooms::{is_number, refused, Lent, Map, NUMBERS, SPARE};
 use std::fmt::Write;
 
@@ -16,7 +17,7 @@ const MOST: usize = usize::MAX;
 /// 0 for a call that would drop the upper half.
 const WIDE: usize = 1 << 32;
 
-/// Each theme is a test of its own, and all of them together see every number from 0 to 23 and from 26 to 29.
+/// Each theme is a test of its own, and all of them together see every number from 0 to 23 and from 26 to 30.
 macro_rules! themes {
     ($($theme:ident),* $(,)?) => {
         mod each {
@@ -42,6 +43,8 @@ themes! {
     read_known_tables,
     sessions_agree_with_whole_reads,
     record_after_each_byte,
+    bodies_after_each_byte,
+    one_body_refuses_a_session,
     index_waits_for_its_last_bit,
     empty_page_changes_nothing,
     closed_once,
@@ -49,6 +52,8 @@ themes! {
     unfit_records_are_left,
     lent_refusals_and_closed_records,
     lent_session_goes_on,
+    lent_bodies_go_on,
+    wrong_forms_and_bodies,
     fetch_is_least,
     fetch_each_stream,
     fetch_after_each_byte,
@@ -59,9 +64,12 @@ themes! {
     manifold_condition_by_pair_then_dart,
     darts_not_reached,
     first_fault_is_answered,
+    first_fault_of_several_bodies,
     known_streams,
     starts_at_and_past_the_end,
     samples_there_and_back,
+    sites_there_and_back,
+    one_body_is_refused,
     read_each_face_file,
     face_files_of_grids,
     face_files_of_squares,
@@ -70,6 +78,7 @@ themes! {
     long_face_files,
     as_many_darts_as_allowed,
     longest_stream,
+    longest_stream_of_bodies,
 }
 
 // Reading: the streams.
@@ -106,8 +115,9 @@ static READINGS: &[Reading] = &[
     // The dimension, not before the second byte and before the room.
     ("half a bad header", &[0x70], 16, 11, 0, 0, 0),
     ("dimension 0", &[0x00, 0x00], 0, 1, 0, 0, 0),
-    ("dimension 9", &[0x90, 0x01, 0xA0], 8, 1, 0, 0, 0),
-    ("dimension 15", &[0xFF, 0xFF, 0xFF], 8, 1, 0, 0, 0),
+    ("dimension 0 of several bodies", &[0x80, 0x01, 0xAA], 0, 1, 0, 0, 0),
+    ("dimension 7 of several bodies", &[0xFF, 0xFF, 0xFF], 8, 1, 0, 0, 0),
+    ("half a bad header of several bodies", &[0x80], 16, 11, 0, 0, 0),
     // Every dimension's lone dart; with four ranks the last symbol ends on a byte border and there is no fill.
     ("lone dart in 2", &[0x20, 0x00, 0xA8], 3, 0, 0, 2, 1),
     ("lone dart in 3", &[0x30, 0x00, 0xAA], 4, 0, 0, 3, 1),
@@ -128,7 +138,35 @@ static READINGS: &[Reading] = &[
     ("16 before 17", &[0x30, 0x07, 0x45, 0x41, 0x80, 0x3D, 0x01], 32, 16, 32, 0, 0),
     ("17 before 18", &[0x10, 0x00, 0xA1, 0x00], 2, 17, 2, 0, 0),
     ("set bits after the end", &[0x10, 0x00, 0xA0, 0xFF], 2, 18, 2, 0, 0),
+    // Several bodies: each next one begins without a symbol, N in the answer is N.
+    ("two lone darts", &[0x90, 0x01, 0xAA], 4, 0, 0, 1, 2),
+    ("two lone darts in 2", &[0xA0, 0x01, 0xAA, 0xA0], 9, 0, 0, 2, 2),
+    ("two lone darts in 6", &[0xE0, 0x01, 0xAA, 0xAA, 0xAA, 0xA0], 14, 0, 0, 6, 2),
+    ("two squares", &TWO_SQUARES, 50, 0, 0, 2, 16),
+    ("greatest header of several bodies", &[0xEF, 0xFF], MAX_TABLES, 11, 0, 0, 0),
+    ("greatest header of several bodies, short room", &[0xEF, 0xFF], MAX_TABLES - 1, 3, 0, 0, 0),
+    // One body only: before 16, 17 and 18, and 15 is not given.
+    ("one body", &[0x90, 0x00, 0xA0], 2, 30, 2, 0, 0),
+    ("P2 as several bodies", &[0x90, 0x01, 0x50], 4, 30, 4, 0, 0),
+    ("30 before 16", &[0xB0, 0x07, 0x45, 0x41, 0x80, 0x3D, 0x00], 40, 30, 32, 0, 0),
+    ("30 before 17", &[0x90, 0x00, 0xA1, 0x00], 2, 30, 2, 0, 0),
+    ("30 before 18", &[0x90, 0x00, 0xA0, 0x00], 9, 30, 2, 0, 0),
+    // The second body has begun before its first bit, and the faults of its steps are those of any step.
+    ("second body cut", &[0x90, 0x01], 4, 11, 0, 0, 0),
+    ("third body cut", &[0x90, 0x02, 0xAA], 6, 11, 4, 0, 0),
+    ("new dart in the last body", &[0x90, 0x01, 0xA0], 8, 13, 2, 0, 0),
+    ("index of an earlier body", &[0x90, 0x02, 0xAC, 0x00, 0x00], 6, 23, 2, 0, 0),
+    ("index of the second body's root", &[0x90, 0x02, 0xAC, 0x00, 0x40], 6, 22, 2, 0, 0),
+    ("index of a body to come", &[0x90, 0x02, 0xAC, 0x00, 0x80], 6, 21, 2, 0, 0),
+    ("P10 after a lone dart", &[0xA0, 0x03, 0xAA, 0x8A, 0x00], 12, 14, 11, 0, 0),
+    ("16 in the first of two bodies", &[0xB0, 0x08, 0x45, 0x41, 0x80, 0x3D, 0x55, 0x00], 36, 16, 36, 0, 0),
+    ("16 before 17, two bodies", &[0xB0, 0x08, 0x45, 0x41, 0x80, 0x3D, 0x55, 0x01], 36, 16, 36, 0, 0),
+    ("last fill bit of two bodies", &[0xA0, 0x01, 0xAA, 0xA1, 0x00], 6, 17, 6, 0, 0),
+    ("a byte after two bodies", &[0xA0, 0x01, 0xAA, 0xA0, 0xFF], 6, 18, 6, 0, 0),
 ];
+
+/// The stream of two squares that nothing joins.
+const TWO_SQUARES: [u8; 10] = [0xA0, 0x0F, 0x01, 0x80, 0x3D, 0x50, 0x0C, 0x03, 0xEA, 0x80];
 
 type Reply = Result<ReadAnswer, Refusal>;
 
@@ -166,10 +204,12 @@ fn expect_built(lent: &mut Lent, bytes: &[u8], tables: &[u16]) {
 /// P3's tables tell a walk that goes back to queue 0 after a new dart from one that does not; its answer and cells do
 /// not.
 fn read_known_tables(lent: &mut Lent) {
-    lent.begin("tables of P1 to P3");
+    lent.begin("tables of P1 to P3, and of two bodies");
     expect_built(lent, &[0x10, 0x00, 0xA0], &[0, 0]);
     expect_built(lent, &[0x10, 0x01, 0x50], &[1, 0, 0, 1]);
     expect_built(lent, &[0x10, 0x05, 0x06, 0x00, 0xA0], &[1, 2, 0, 4, 3, 0, 2, 5, 5, 1, 4, 3]);
+    let loop_and_chain = [1, 1, 0, 0, 3, 2, 2, 4, 5, 3, 4, 6, 6, 5];
+    expect_built(lent, &[0x90, 0x06, 0x60, 0x02, 0x84], &loop_and_chain);
 }
 
 // Reading: sessions.
@@ -188,7 +228,7 @@ fn open_in(lent: &mut Lent, room: usize) {
     lent.built.lend(room);
 }
 
-/// A session's fifteen numbers and its tables put away, another stream read in the same rooms, and both taken up again:
+/// A session's numbers and its tables put away, another stream read in the same rooms, and both taken up again:
 /// nothing else belongs to a session.
 fn carry_elsewhere(lent: &mut Lent) {
     let (record, tables) = (lent.record(), lent.built.at().to_vec());
@@ -268,20 +308,52 @@ fn expect_close(lent: &mut Lent, answer: Reply) {
 fn record_after_each_byte(lent: &mut Lent) {
     lent.begin("record after each byte");
     open_in(lent, 8);
-    expect_given(lent, &[0x10], reading(0, 0, 0), [0, 0, 0, 0, 0, 0, 0, 0, 0, 0, 0, 0, 0, 8, 0x10]);
-    expect_given(lent, &[0x03], reading(0, 1, 4), [1, 0, 0, 1, 4, 1, 0, 0, 0, 0, 0, 0, 0, 0, 0]);
-    expect_given(lent, &[0x18], reading(5, 1, 4), [1, 0, 0, 1, 4, 4, 4, 1, 0, 0, 0, 0, 0, 5, 0x18]);
-    expect_given(lent, &[0x00], reading(5, 1, 4), [1, 0, 0, 1, 4, 4, 4, 1, 0, 0, 0, 0, 0, 13, 0x1800]);
+    expect_given(lent, &[0x10], reading(0, 0, 0), [0, 0, 0, 0, 0, 0, 0, 0, 0, 0, 0, 0, 0, 8, 0x10, 0, 0]);
+    expect_given(lent, &[0x03], reading(0, 1, 4), [1, 0, 0, 1, 4, 1, 0, 0, 0, 0, 0, 0, 0, 0, 0, 0, 1]);
+    expect_given(lent, &[0x18], reading(5, 1, 4), [1, 0, 0, 1, 4, 4, 4, 1, 0, 0, 0, 0, 0, 5, 0x18, 0, 1]);
+    expect_given(lent, &[0x00], reading(5, 1, 4), [1, 0, 0, 1, 4, 4, 4, 1, 0, 0, 0, 0, 0, 13, 0x1800, 0, 1]);
     lent.must(lent.state() == Some(State::Running), "the session is running");
     expect_close(lent, refused(11, 5));
     expect_close(lent, refused(11, 5));
     expect_page(lent, &[0x00], refused(11, 5));
 }
 
+/// A body begins as soon as the one before has ended, before any bit of its own, and the record tells. Three lone
+/// darts, then the same closed early.
+fn bodies_after_each_byte(lent: &mut Lent) {
+    lent.begin("bodies after each byte");
+    open_in(lent, 6);
+    expect_given(lent, &[0x90], reading(0, 0, 0), [0, 0, 0, 0, 0, 0, 0, 0, 0, 0, 0, 0, 0, 8, 0x90, 0, 0]);
+    expect_given(lent, &[0x02], reading(0, 1, 3), [1, 0, 0, 1, 3, 1, 0, 0, 0, 0, 0, 0, 0, 0, 0, 1, 1]);
+    lent.must(lent.form_read() == Some(Form::SeveralBodies) && lent.bodies() == 1, "the form is told by the header");
+    expect_given(lent, &[0xAA], reading(4, 1, 3), [1, 0, 0, 1, 3, 3, 2, 2, 0, 0, 0, 0, 0, 0, 0, 1, 3]);
+    expect_given(lent, &[0xA0], reading(6, 1, 3), [2, 0, 0, 1, 3, 3, 3, 3, 0, 0, 0, 0, 0, 0, 0, 1, 3]);
+    expect_close(lent, reading(6, 1, 3));
+    lent.must(lent.record() == [3, 0, 0, 1, 3, 3, 3, 3, 0, 0, 0, 0, 0, 0, 0, 1, 3], "form and bodies are kept");
+    expect_close(lent, refused(20, 0));
+    open_in(lent, 6);
+    expect_page(lent, &[0x90, 0x02, 0xAA], reading(4, 1, 3));
+    expect_close(lent, refused(11, 4));
+    lent.must(lent.record() == record_of(&[4, 11, 4]), "a refused session has no form and no body");
+}
+
+/// 30 is a session's refusal like any other: the record says it and nothing else, and it is repeated.
+fn one_body_refuses_a_session(lent: &mut Lent) {
+    lent.begin("one body in a session");
+    open_in(lent, 5);
+    expect_page(lent, &[0x90, 0x01], reading(0, 1, 2));
+    expect_given(lent, &[0x50], refused(30, 4), record_of(&[4, 30, 4]));
+    lent.must(lent.built.at()[..4] == [NO_LINK; 4] && lent.built.kept_from(4), "the tables say no link");
+    expect_page(lent, &[], refused(30, 4));
+    expect_page(lent, &[0x10, 0x01, 0x50], refused(30, 4));
+    expect_close(lent, refused(30, 4));
+    lent.must(lent.record() == record_of(&[4, 30, 4]), "a repeated refusal keeps the record");
+}
+
 fn index_waits_for_its_last_bit(lent: &mut Lent) {
     lent.begin("index waits");
     open_in(lent, 4);
-    expect_given(lent, &[0x10, 0x01, 0xC1], reading(0, 1, 2), [1, 0, 0, 1, 2, 1, 0, 0, 0, 0, 0, 0, 0, 8, 0xC1]);
+    expect_given(lent, &[0x10, 0x01, 0xC1], reading(0, 1, 2), [1, 0, 0, 1, 2, 1, 0, 0, 0, 0, 0, 0, 0, 8, 0xC1, 0, 1]);
     expect_page(lent, &[0x00], refused(21, 0));
 }
 
@@ -300,10 +372,10 @@ fn empty_page_changes_nothing(lent: &mut Lent) {
 fn closed_once(lent: &mut Lent) {
     lent.begin("closed once");
     open_in(lent, 4);
-    expect_given(lent, &[0x10, 0x01, 0x50], reading(4, 1, 2), [2, 0, 0, 1, 2, 2, 2, 2, 0, 0, 0, 0, 0, 0, 0]);
+    expect_given(lent, &[0x10, 0x01, 0x50], reading(4, 1, 2), [2, 0, 0, 1, 2, 2, 2, 2, 0, 0, 0, 0, 0, 0, 0, 0, 1]);
     lent.must(lent.state() == Some(State::Complete), "the session is complete");
     expect_close(lent, reading(4, 1, 2));
-    lent.must(lent.record() == [3, 0, 0, 1, 2, 2, 2, 2, 0, 0, 0, 0, 0, 0, 0], "the other numbers are kept");
+    lent.must(lent.record() == [3, 0, 0, 1, 2, 2, 2, 2, 0, 0, 0, 0, 0, 0, 0, 0, 1], "the other numbers are kept");
     expect_close(lent, refused(20, 0));
     expect_page(lent, &[0x00], refused(20, 0));
     expect_page(lent, &[], refused(20, 0));
@@ -330,80 +402,117 @@ fn record_of(numbers: &[u32]) -> [u32; RECORD] {
     record
 }
 
+/// The same with this form and so many bodies.
+fn record_with(numbers: &[u32], (form, bodies): (u32, u32)) -> [u32; RECORD] {
+    let mut record = record_of(numbers);
+    record[15] = form;
+    record[16] = bodies;
+    record
+}
+
 const NO: u16 = NO_LINK;
 
-/// Name, first numbers of the record, tables.
-static UNFIT: &[(&str, &[u32], &[u16])] = &[
-    ("state 5", &[5], &[]),
-    ("greatest state", &[u32::MAX], &[]),
-    ("refusal number in header state", &[0, 11], &[]),
-    ("refusal place in header state", &[0, 0, 1], &[]),
-    ("refusal number when closed", &[3, 20], &[]),
-    ("position 65536", &[3, 0, 0, 0, 0, 0, 65536], &[]),
-    ("last position 65536", &[3, 0, 0, 0, 0, 0, 0, 0, 0, 0, 0, 0, 65536], &[]),
-    ("value 65536 when refused", &[4, 11, 0, 0, 0, 0, 0, 0, 0, 0, 0, 0, 0, 0, 65536], &[]),
-    ("header with a count", &[0, 0, 0, 0, 0, 1], &[]),
-    ("header with 7 bits", &[0, 0, 0, 0, 0, 0, 0, 0, 0, 0, 0, 0, 0, 7, 1], &[]),
-    ("header with value past 8 bits", &[0, 0, 0, 0, 0, 0, 0, 0, 0, 0, 0, 0, 0, 8, 256], &[]),
-    ("no bits but a value", &[0, 0, 0, 0, 0, 0, 0, 0, 0, 0, 0, 0, 0, 0, 5], &[]),
-    ("refused by 0", &[4, 0, 0], &[]),
-    ("refused by 2", &[4, 2, 0], &[]),
-    ("refused by 10", &[4, 10, 0], &[]),
-    ("refused by 1 at 1", &[4, 1, 1], &[]),
-    ("refused by 3 at 1", &[4, 3, 1], &[]),
-    ("refused by 19", &[4, 19, 0], &[]),
-    ("refused by 20", &[4, 20, 0], &[]),
-    ("refused by 24", &[4, 24, 0], &[]),
-    ("refused by 25", &[4, 25, 0], &[]),
-    ("refused by 26", &[4, 26, 0], &[]),
-    ("refused by 29", &[4, 29, 0], &[]),
-    ("running in dimension 0", &[1, 0, 0, 0, 2, 1], &[NO, NO, NO, NO]),
-    ("running in dimension 7", &[1, 0, 0, 7, 2, 1], &[NO, NO, NO, NO]),
-    ("running without darts", &[1, 0, 0, 1, 0, 1], &[NO, NO, NO, NO]),
-    ("running with 4097 darts", &[1, 0, 0, 1, 4097, 1], &[NO, NO, NO, NO]),
-    ("running, short tables", &[1, 0, 0, 1, 2, 1], &[NO, NO, NO]),
-    ("count 0", &[1, 0, 0, 1, 2, 0], &[NO, NO, NO, NO]),
-    ("count above n", &[1, 0, 0, 1, 2, 3], &[NO, NO, NO, NO]),
-    ("position above count", &[1, 0, 0, 1, 2, 1, 2], &[0, NO, 0, NO]),
-    ("rising positions", &[1, 0, 0, 1, 2, 2, 1, 2], &[1, 1, 0, 0]),
-    ("position past N", &[1, 0, 0, 1, 2, 2, 2, 1, 1], &[1, 0, 0, NO]),
-    ("entry not below count", &[1, 0, 0, 1, 2, 1, 1, 0], &[1, NO, NO, NO]),
-    ("entry missing behind a position", &[1, 0, 0, 1, 2, 2, 1, 0], &[NO, NO, NO, NO]),
-    ("tables by rank", &[1, 0, 0, 1, 2, 2, 2, 0], &[1, 0, NO, NO]),
-    ("entry of a dart without number", &[1, 0, 0, 1, 2, 1, 0], &[NO, NO, 0, NO]),
-    ("next step known", &[1, 0, 0, 1, 2, 2, 1, 0], &[1, NO, 0, NO]),
-    ("14 waiting bits", &[1, 0, 0, 1, 2, 1, 0, 0, 0, 0, 0, 0, 0, 14, 0x3000], &[NO, NO, NO, NO]),
-    ("waiting bits of a whole symbol", &[1, 0, 0, 1, 2, 1, 0, 0, 0, 0, 0, 0, 0, 2, 2], &[NO, NO, NO, NO]),
-    ("complete with a step left", &[2, 0, 0, 1, 2, 2, 2, 1], &[1, 0, 0, NO]),
-    ("complete without its tables", &[2, 0, 0, 1, 2, 2, 2, 2], &[1, NO, 0, NO]),
-    ("complete with waiting bits", &[2, 0, 0, 1, 2, 2, 2, 2, 0, 0, 0, 0, 0, 1, 1], &[1, 0, 0, 1]),
+/// Form and bodies: none, as at opening and when refused, and one body.
+const NONE: (u32, u32) = (0, 0);
+const ONE: (u32, u32) = (0, 1);
+
+/// Name, first numbers of the record, its form and bodies, tables.
+type Unfit = (&'static str, &'static [u32], (u32, u32), &'static [u16]);
+
+static UNFIT: &[Unfit] = &[
+    ("state 5", &[5], NONE, &[]),
+    ("greatest state", &[u32::MAX], NONE, &[]),
+    ("refusal number in header state", &[0, 11], NONE, &[]),
+    ("refusal place in header state", &[0, 0, 1], NONE, &[]),
+    ("refusal number when closed", &[3, 20], NONE, &[]),
+    ("position 65536", &[3, 0, 0, 0, 0, 0, 65536], NONE, &[]),
+    ("last position 65536", &[3, 0, 0, 0, 0, 0, 0, 0, 0, 0, 0, 0, 65536], NONE, &[]),
+    ("value 65536 when refused", &[4, 11, 0, 0, 0, 0, 0, 0, 0, 0, 0, 0, 0, 0, 65536], NONE, &[]),
+    ("header with a count", &[0, 0, 0, 0, 0, 1], NONE, &[]),
+    ("header with 7 bits", &[0, 0, 0, 0, 0, 0, 0, 0, 0, 0, 0, 0, 0, 7, 1], NONE, &[]),
+    ("header with value past 8 bits", &[0, 0, 0, 0, 0, 0, 0, 0, 0, 0, 0, 0, 0, 8, 256], NONE, &[]),
+    ("no bits but a value", &[0, 0, 0, 0, 0, 0, 0, 0, 0, 0, 0, 0, 0, 0, 5], NONE, &[]),
+    ("refused by 0", &[4, 0, 0], NONE, &[]),
+    ("refused by 2", &[4, 2, 0], NONE, &[]),
+    ("refused by 10", &[4, 10, 0], NONE, &[]),
+    ("refused by 1 at 1", &[4, 1, 1], NONE, &[]),
+    ("refused by 3 at 1", &[4, 3, 1], NONE, &[]),
+    ("refused by 19", &[4, 19, 0], NONE, &[]),
+    ("refused by 20", &[4, 20, 0], NONE, &[]),
+    ("refused by 24", &[4, 24, 0], NONE, &[]),
+    ("refused by 25", &[4, 25, 0], NONE, &[]),
+    ("refused by 26", &[4, 26, 0], NONE, &[]),
+    ("refused by 29", &[4, 29, 0], NONE, &[]),
+    ("refused by 31", &[4, 31, 0], NONE, &[]),
+    ("form 2 of a header", &[0], (2, 0), &[]),
+    ("form 2 when closed", &[3], (2, 0), &[]),
+    ("greatest form when closed", &[3], (u32::MAX, 0), &[]),
+    ("form 2 when refused", &[4, 11], (2, 0), &[]),
+    ("65536 bodies when closed", &[3], (0, 65536), &[]),
+    ("header with a form", &[0], (1, 0), &[]),
+    ("header with a body", &[0], (0, 1), &[]),
+    ("header with form and body", &[0, 0, 0, 0, 0, 0, 0, 0, 0, 0, 0, 0, 0, 8, 0x90], (1, 1), &[]),
+    ("refused with a form", &[4, 11], (1, 0), &[]),
+    ("refused with a body", &[4, 11], (0, 1), &[]),
+    ("refused by 30 with form and bodies", &[4, 30, 4], (1, 1), &[]),
+    ("running in dimension 0", &[1, 0, 0, 0, 2, 1], ONE, &[NO, NO, NO, NO]),
+    ("running in dimension 7", &[1, 0, 0, 7, 2, 1], ONE, &[NO, NO, NO, NO]),
+    ("running without darts", &[1, 0, 0, 1, 0, 1], ONE, &[NO, NO, NO, NO]),
+    ("running with 4097 darts", &[1, 0, 0, 1, 4097, 1], ONE, &[NO, NO, NO, NO]),
+    ("running, short tables", &[1, 0, 0, 1, 2, 1], ONE, &[NO, NO, NO]),
+    ("count 0", &[1, 0, 0, 1, 2, 0], ONE, &[NO, NO, NO, NO]),
+    ("count above n", &[1, 0, 0, 1, 2, 3], ONE, &[NO, NO, NO, NO]),
+    ("position above count", &[1, 0, 0, 1, 2, 1, 2], ONE, &[0, NO, 0, NO]),
+    ("rising positions", &[1, 0, 0, 1, 2, 2, 1, 2], ONE, &[1, 1, 0, 0]),
+    ("position past N", &[1, 0, 0, 1, 2, 2, 2, 1, 1], ONE, &[1, 0, 0, NO]),
+    ("entry not below count", &[1, 0, 0, 1, 2, 1, 1, 0], ONE, &[1, NO, NO, NO]),
+    ("entry missing behind a position", &[1, 0, 0, 1, 2, 2, 1, 0], ONE, &[NO, NO, NO, NO]),
+    ("tables by rank", &[1, 0, 0, 1, 2, 2, 2, 0], ONE, &[1, 0, NO, NO]),
+    ("entry of a dart without number", &[1, 0, 0, 1, 2, 1, 0], ONE, &[NO, NO, 0, NO]),
+    ("next step known", &[1, 0, 0, 1, 2, 2, 1, 0], ONE, &[1, NO, 0, NO]),
+    ("14 waiting bits", &[1, 0, 0, 1, 2, 1, 0, 0, 0, 0, 0, 0, 0, 14, 0x3000], ONE, &[NO, NO, NO, NO]),
+    ("waiting bits of a whole symbol", &[1, 0, 0, 1, 2, 1, 0, 0, 0, 0, 0, 0, 0, 2, 2], ONE, &[NO, NO, NO, NO]),
+    ("complete with a step left", &[2, 0, 0, 1, 2, 2, 2, 1], ONE, &[1, 0, 0, NO]),
+    ("complete without its tables", &[2, 0, 0, 1, 2, 2, 2, 2], ONE, &[1, NO, 0, NO]),
+    ("running without a body", &[1, 0, 0, 1, 2, 1], NONE, &[NO, NO, NO, NO]),
+    ("running in form 2", &[1, 0, 0, 1, 2, 1], (2, 1), &[NO, NO, NO, NO]),
+    ("several bodies without a body", &[1, 0, 0, 1, 2, 1], (1, 0), &[NO, NO, NO, NO]),
+    ("more bodies than darts numbered", &[1, 0, 0, 1, 2, 1], (1, 2), &[NO, NO, NO, NO]),
+    ("two bodies in the form of one", &[1, 0, 0, 1, 2, 2, 1, 1], (0, 2), &[0, 0, NO, NO]),
+    ("a body that has not begun", &[1, 0, 0, 1, 2, 1, 1, 1], (1, 1), &[0, 0, NO, NO]),
+    ("complete without a body", &[2, 0, 0, 1, 2, 2, 2, 2], NONE, &[0, 0, 1, 1]),
+    ("complete, two bodies in the form of one", &[2, 0, 0, 1, 2, 2, 2, 2], (0, 2), &[0, 0, 1, 1]),
+    ("complete, three bodies of two darts", &[2, 0, 0, 1, 2, 2, 2, 2], (1, 3), &[0, 0, 1, 1]),
+    ("complete with waiting bits", &[2, 0, 0, 1, 2, 2, 2, 2, 0, 0, 0, 0, 0, 1, 1], ONE, &[1, 0, 0, 1]),
 ];
 
 fn unfit_records_are_left(lent: &mut Lent) {
-    for &(name, numbers, tables) in UNFIT {
+    for &(name, numbers, bodies, tables) in UNFIT {
         lent.begin(name);
-        lent.take_up(record_of(numbers));
+        lent.take_up(record_with(numbers, bodies));
         lent.built.lend_copy(tables);
         expect_page(lent, &[0x80], refused(19, 0));
         expect_page(lent, &[], refused(19, 0));
         expect_close(lent, refused(19, 0));
         lent.must(lent.state().is_some() == (numbers[0] <= 4), "only a record of another state has none");
+        lent.must(lent.form_read().is_some() == (bodies.0 <= 1), "only a record of another form has none");
     }
 }
 
-/// Fit is asked of a refused record only in its number and place, and of a closed one nothing but sixteen bits.
+/// Fit is asked of a refused record only in its number and place, form and bodies, and of a closed one nothing but
+/// sixteen bits and a form.
 fn lent_refusals_and_closed_records(lent: &mut Lent) {
     lent.begin("lent refusals");
     lent.built.lend_copy(&[7; 4]);
-    lent.take_up([4, 11, 4_000_000_000, 9, 8, 7, 6, 5, 4, 3, 2, 1, 0, 65535, 65535]);
+    lent.take_up([4, 11, 4_000_000_000, 9, 8, 7, 6, 5, 4, 3, 2, 1, 0, 65535, 65535, 0, 0]);
     expect_page(lent, &[0x10, 0x01, 0x50], refused(11, 4_000_000_000));
     expect_close(lent, refused(11, 4_000_000_000));
-    for number in (11..=18).chain(21..=23) {
+    for number in (11..=18).chain(21..=23).chain([30]) {
         lent.take_up(record_of(&[4, number, 3 * number]));
         expect_page(lent, &[0x80], refused(number, 3 * number as usize));
         expect_close(lent, refused(number, 3 * number as usize));
     }
-    lent.take_up([3, 0, 0, 9, 65535, 65535, 1, 2, 3, 4, 5, 6, 7, 65535, 65535]);
+    lent.take_up([3, 0, 0, 9, 65535, 65535, 1, 2, 3, 4, 5, 6, 7, 65535, 65535, 1, 65535]);
     expect_page(lent, &[0x10, 0x01, 0x50], refused(20, 0));
     expect_close(lent, refused(20, 0));
 }
@@ -416,7 +525,7 @@ fn lent_session_goes_on(lent: &mut Lent) {
     let between = (0, [1, NO, 0, NO], 0xA0, [1, 0, 0, 1]);
     let never_left = (1, [0, 0, 0, NO], 0x80, [0, 0, 0, 1]);
     for (position, tables, byte, after) in [between, never_left] {
-        lent.take_up(record_of(&[1, 0, 0, 1, 2, 2, 2, position]));
+        lent.take_up(record_with(&[1, 0, 0, 1, 2, 2, 2, position], ONE));
         lent.built.lend_copy(&tables);
         expect_page(lent, &[byte], reading(4, 1, 2));
         lent.must(lent.built.at() == after, "the last links are set");
@@ -424,12 +533,85 @@ fn lent_session_goes_on(lent: &mut Lent) {
     }
 }
 
+/// What a session of several bodies is found to have at its end goes by the count that it was lent with, 1 to the darts
+/// numbered: a complete one is closed with any, and one that runs to its end with 1 is refused by 30.
+fn lent_bodies_go_on(lent: &mut Lent) {
+    lent.begin("lent bodies go on");
+    for bodies in [1, 2] {
+        lent.take_up(record_with(&[1, 0, 0, 1, 2, 2, 2, 1], (1, bodies)));
+        lent.built.lend_copy(&[0, 0, 1, NO]);
+        expect_page(lent, &[0x80], if bodies == 1 { refused(30, 4) } else { reading(4, 1, 2) });
+        lent.take_up(record_with(&[2, 0, 0, 1, 2, 2, 2, 2], (1, bodies)));
+        lent.built.lend_copy(&[0, 0, 1, 1]);
+        expect_page(lent, &[], reading(4, 1, 2));
+        expect_close(lent, reading(4, 1, 2));
+        lent.must(lent.bodies() == bodies as usize, "closing keeps the bodies");
+    }
+}
+
+/// The session at hand with a form and bodies that it may not have; then it is as before.
+#[track_caller]
+fn expect_unfit_with(lent: &mut Lent, form: u32, bodies: u32) {
+    let record = lent.record();
+    lent.take_up(record_with(&record[..15], (form, bodies)));
+    expect_page(lent, &[0x00], refused(19, 0));
+    expect_close(lent, refused(19, 0));
+    lent.take_up(record);
+}
+
+/// The session at hand, in the form of several bodies if it has one: with another form, and with each kind of number of
+/// bodies that it may not have. Every number of them from 1 to the darts numbered is fit.
+#[track_caller]
+fn spoil_bodies(lent: &mut Lent) {
+    let record = lent.record();
+    let (count, bodies) = (record[5], record[16]);
+    let walks = matches!(lent.state(), Some(State::Running | State::Complete));
+    for form in [2, u32::MAX] {
+        expect_unfit_with(lent, form, bodies);
+    }
+    expect_unfit_with(lent, walks as u32, 65536);
+    expect_unfit_with(lent, walks as u32, count + 1);
+    expect_unfit_with(lent, !walks as u32, if walks { 2 } else { 0 });
+    expect_unfit_with(lent, 1, !walks as u32);
+    for fit in 1..=if walks { count } else { 0 } {
+        lent.take_up(record_with(&record[..15], (1, fit)));
+        let given = give(lent, &[]);
+        lent.must(given.is_ok(), "any number of bodies from 1 to the darts numbered is fit");
+    }
+    lent.take_up(record);
+}
+
+/// Two squares and two lone darts, by small pages: after each the session is spoiled in form and bodies, and then goes
+/// on as if it had not been; so is it when it is refused. A closed one has any number of bodies, of 16 bits.
+fn wrong_forms_and_bodies(lent: &mut Lent) {
+    lent.begin("wrong forms and bodies");
+    open_in(lent, 60);
+    let pages: [&[u8]; 10] =
+        [&[], &[0xA0], &[0x11], &[0x01, 0x80, 0x3D], &[0x50], &[0x0C], &[0x03], &[0xEA], &[0xAA], &[0xA8]];
+    for page in pages {
+        let given = give(lent, page);
+        lent.must(given.is_ok(), "the session goes on");
+        spoil_bodies(lent);
+    }
+    lent.must(lent.state() == Some(State::Complete) && lent.bodies() == 4, "the session is complete");
+    expect_page(lent, &[0x00], refused(18, 54));
+    spoil_bodies(lent);
+    open_in(lent, 60);
+    expect_page(lent, &[0x90, 0x01, 0xAA], reading(4, 1, 2));
+    expect_close(lent, reading(4, 1, 2));
+    let record = lent.record();
+    lent.take_up(record_with(&record[..15], (1, 65535)));
+    expect_close(lent, refused(20, 0));
+    expect_unfit_with(lent, 2, 2);
+    expect_unfit_with(lent, 1, 65536);
+}
+
 // How much to fetch.
 
 /// A symbol that waits, with the first of the fourteen bits 11 and twelve zeros, at the first step of a map of two
 /// darts.
 fn lend_waiting(lent: &mut Lent, bits: u32) {
-    lent.take_up(record_of(&[1, 0, 0, 1, 2, 1, 0, 0, 0, 0, 0, 0, 0, bits, 0x3000 >> (14 - bits)]));
+    lent.take_up(record_with(&[1, 0, 0, 1, 2, 1, 0, 0, 0, 0, 0, 0, 0, bits, 0x3000 >> (14 - bits)], ONE));
     lent.built.lend_copy(&[NO; 4]);
 }
 
@@ -505,17 +687,31 @@ fn fetch_after_each_byte(lent: &mut Lent) {
 
 // Posted maps: refusals.
 
-/// The three calls that take a map, refused alike.
+/// The three calls that take a map, refused alike. Each gets a fresh work room: what one leaves there is not to be
+/// taken for the next one's.
 #[track_caller]
-fn all_refuse(lent: &mut Lent, m: Map, root: usize, number: u32, place: usize) {
+fn form_refuses(lent: &mut Lent, m: Map, root: usize, number: u32, place: usize) {
+    let room = lent.work.length();
     lent.out.lend(9);
+    lent.work.lend(room);
     let checked = lent.check(m, root);
     lent.expect(checked, refused(number, place));
+    lent.work.lend(room);
     let written = lent.write(m, root, 0);
     lent.expect(written, refused(number, place));
+    lent.work.lend(room);
     if root == 0 {
         let reported = lent.report(m);
         lent.expect(reported, refused(number, place));
+    }
+}
+
+/// The same in both forms, by a number that both have.
+#[track_caller]
+fn all_refuse(lent: &mut Lent, m: Map, root: usize, number: u32, place: usize) {
+    for form in [Form::SeveralBodies, Form::OneBody] {
+        lent.form = form;
+        form_refuses(lent, m, root, number, place);
     }
 }
 
@@ -608,11 +804,11 @@ fn manifold_condition_by_pair_then_dart(lent: &mut Lent) {
 fn darts_not_reached(lent: &mut Lent) {
     lent.begin("darts not reached");
     let m = post_free(lent, 1, 2);
-    all_refuse(lent, m, 0, 9, 1);
-    all_refuse(lent, m, 1, 9, 0);
+    form_refuses(lent, m, 0, 9, 1);
+    form_refuses(lent, m, 1, 9, 0);
     let m = post_squares(lent, 2);
-    all_refuse(lent, m, 0, 9, 8);
-    all_refuse(lent, m, 9, 9, 0);
+    form_refuses(lent, m, 0, 9, 8);
+    form_refuses(lent, m, 9, 9, 0);
 }
 
 /// A posting with the faults of 1 to 10, the first `mended` of them mended: the map, the root and the start to call
@@ -670,6 +866,34 @@ fn first_fault_is_answered(lent: &mut Lent) {
     lent.must(written.is_ok(), "nothing is left to mend");
 }
 
+/// The same in the form of several bodies, which that of the fault 9 is: then 10 is left, and with 9 mended 30.
+fn first_fault_of_several_bodies(lent: &mut Lent) {
+    lent.begin("first fault, several bodies");
+    lent.form = Form::SeveralBodies;
+    lent.out.lend(9);
+    for (mended, place) in [0, 0, 0, 0, 0, 17, 10, 2].into_iter().enumerate() {
+        let number = mended as u32 + 1;
+        let (m, root, start) = post_faults(lent, mended);
+        let checked = lent.check(m, root);
+        lent.expect(checked, refused(number, place));
+        let written = lent.write(m, root, start);
+        lent.expect(written, refused(number, place));
+        let reported = lent.report(m);
+        lent.expect(reported, if number == 5 { refused(6, 17) } else { refused(number, place) });
+    }
+    let (m, root, start) = post_faults(lent, 8);
+    accepts(lent, m, root);
+    let reported = lent.report(m);
+    lent.must(reported.is_ok(), "the report is given");
+    let length = lent.write(m, root, 0).unwrap().length;
+    let written = lent.write(m, root, start);
+    lent.expect(written, refused(10, length));
+    let (m, root, start) = post_faults(lent, 9);
+    form_refuses(lent, m, root, 30, 0);
+    let written = lent.write(m, root, start);
+    lent.expect(written, refused(30, 0));
+}
+
 // Posted maps: the writer.
 
 /// The whole stream of a posted map.
@@ -701,6 +925,19 @@ fn known_streams(lent: &mut Lent) {
     let m = post_chain(lent, 1, 3);
     expect_stream(lent, m, 0, &[0x10, 0x02, 0x48]);
     expect_stream(lent, m, 2, &[0x10, 0x02, 0x88]);
+    lent.form = Form::SeveralBodies;
+    let m = post_free(lent, 1, 2);
+    expect_stream(lent, m, 0, &[0x90, 0x01, 0xAA]);
+    let m = post_free(lent, 6, 2);
+    expect_stream(lent, m, 1, &[0xE0, 0x01, 0xAA, 0xAA, 0xAA, 0xA0]);
+    let m = post_squares(lent, 2);
+    expect_stream(lent, m, 0, &TWO_SQUARES);
+    expect_stream(lent, m, 11, &TWO_SQUARES);
+    let m = loop_and_chain(lent);
+    expect_stream(lent, m, 0, &[0x90, 0x06, 0x60, 0x02, 0x84]);
+    expect_stream(lent, m, 1, &[0x90, 0x06, 0x60, 0x02, 0x84]);
+    expect_stream(lent, m, 2, &[0x90, 0x06, 0x42, 0x60, 0x0C]);
+    expect_stream(lent, m, 6, &[0x90, 0x06, 0x82, 0x60, 0x0C]);
 }
 
 /// Pages of one size, each begun where the last one ended, join to the stream.
@@ -803,6 +1040,100 @@ fn samples_there_and_back(lent: &mut Lent) {
         let (stream, tables) = there_and_back(lent, m, m.darts - 1);
         post_what_was_built(lent, m, &stream, &tables);
         expect_report(lent, s, m);
+    }
+}
+
+// Several bodies.
+
+/// For each dart of the posted map the least that it reaches.
+fn bodies_of(lent: &Lent, m: Map) -> Vec<usize> {
+    let posted = lent.posted.at();
+    let mut body_of = vec![MOST; m.darts];
+    for d in 0..m.darts {
+        let mut left = vec![d];
+        while let Some(e) = left.pop() {
+            if body_of[e] == MOST {
+                body_of[e] = d;
+                left.extend((0..=m.dim).map(|i| posted[m.place(i, e)] as usize));
+            }
+        }
+    }
+    body_of
+}
+
+/// Does the work room number the bodies one after the other, that of the root first, and each next one from the least
+/// dart that has no number before it? How many there are.
+#[track_caller]
+fn bodies_in_order(lent: &Lent, m: Map, root: usize, body_of: &[usize]) -> usize {
+    let (numbers, darts) = lent.work.at()[..2 * m.darts].split_at(m.darts);
+    let (mut bodies, mut least) = (1, 0);
+    for k in 1..m.darts {
+        let (before, dart) = (darts[k - 1] as usize, darts[k] as usize);
+        if body_of[dart] != body_of[before] {
+            while (numbers[least] as usize) < k {
+                least += 1;
+            }
+            lent.must(dart == least, "a body begins at the least dart without number");
+            bodies += 1;
+        }
+    }
+    lent.must(darts[0] as usize == root, "the first body begins at the root");
+    bodies
+}
+
+/// A site from one root, there and back; in the form of one body the stream ends with the root's body, by 15.
+fn site_from_root(lent: &mut Lent, m: Map, root: usize, bodies: usize, body_of: &[usize]) -> (Vec<u8>, Vec<u16>) {
+    accepts(lent, m, root);
+    let in_order = bodies_in_order(lent, m, root, body_of);
+    lent.must(in_order == bodies, "the check finds the bodies");
+    let (mut stream, tables) = there_and_back(lent, m, root);
+    lent.must(stream[0] as usize / 16 == 8 + m.dim, "the header tells the form");
+    lent.must(lent.state() == Some(State::Closed), "the last session is closed");
+    lent.must(lent.form_read() == Some(Form::SeveralBodies) && lent.bodies() == bodies, "it has found the bodies");
+    let in_first = body_of.iter().filter(|body| **body == body_of[root]).count();
+    stream[0] ^= 0x80;
+    let whole = read_whole(lent, &stream, m.entries());
+    lent.expect(whole.answer, refused(15, (m.dim + 1) * in_first));
+    stream[0] ^= 0x80;
+    (stream, tables)
+}
+
+fn sites_there_and_back(lent: &mut Lent) {
+    for (sample, bodies) in SITES {
+        let &(name, post, ..) = sample;
+        lent.begin(name);
+        let m = post(lent);
+        let body_of = bodies_of(lent, m);
+        form_refuses(lent, m, 0, 9, body_of.iter().position(|body| *body != 0).unwrap());
+        lent.form = Form::SeveralBodies;
+        expect_report(lent, sample, m);
+        for root in [0, m.darts / 3, m.darts / 2] {
+            site_from_root(lent, m, root, *bodies, &body_of);
+        }
+        let (stream, tables) = site_from_root(lent, m, m.darts - 1, *bodies, &body_of);
+        post_what_was_built(lent, m, &stream, &tables);
+        expect_report(lent, sample, m);
+    }
+}
+
+/// 30 in all calls: each map of one body is refused in the form of several, and so is its stream.
+fn one_body_is_refused(lent: &mut Lent) {
+    for &(name, post, ..) in SAMPLES {
+        lent.begin(name);
+        let m = post(lent);
+        let mut stream = write_whole(lent, m, m.darts / 2);
+        lent.form = Form::SeveralBodies;
+        form_refuses(lent, m, 0, 30, 0);
+        form_refuses(lent, m, m.darts - 1, 30, 0);
+        let written = lent.write(m, 0, MOST);
+        lent.expect(written, refused(30, 0));
+        stream[0] |= 0x80;
+        let whole = read_whole(lent, &stream, m.entries() + SPARE);
+        lent.expect(whole.answer, refused(30, m.entries()));
+        feed_pages_of(lent, &stream, &whole, 64);
+        if stream.len() < 64 {
+            feed_cut_everywhere(lent, &stream, &whole);
+        }
     }
 }
 
@@ -1069,7 +1400,8 @@ fn rooms_for_a_cube(lent: &mut Lent) {
     expect_faces(lent, refused(27, 1));
 }
 
-/// Two squares that have no side in common: the tables hold both, though 9 does not tell how many darts they have.
+/// Two squares that have no side in common: the tables hold both, though 9 does not tell how many darts they have, and
+/// go out in the form of several bodies.
 fn squares_apart(lent: &mut Lent) {
     lent.begin("squares apart");
     let m = post_squares(lent, 2);
@@ -1081,6 +1413,10 @@ fn squares_apart(lent: &mut Lent) {
     lent.must(lent.work.at() == [NO_LINK; 32] && lent.posted.at() == tables, "the tables hold both squares");
     let checked = lent.check(m, 8);
     lent.expect(checked, refused(9, 0));
+    lent.form = Form::SeveralBodies;
+    accepts(lent, m, 0);
+    expect_stream(lent, m, 0, &TWO_SQUARES);
+    lent.form = Form::OneBody;
     lent.work.shorten(31);
     expect_faces(lent, refused(4, 0));
 }
@@ -1141,6 +1477,22 @@ fn longest_stream(lent: &mut Lent) {
     let stream = write_whole(lent, m, 0);
     lent.must(stream.len() == 14854, "the length is the longest");
     lent.must(m.place(6, MAX_DARTS - 1) == MAX_TABLES - 1, "the last link stands last");
+    let whole = read_whole(lent, &stream, MAX_TABLES);
+    lent.expect(whole.answer, reading(MAX_TABLES, 6, MAX_DARTS));
+    feed_pages_of(lent, &stream, &whole, 4096);
+    let short = read_whole(lent, &stream, MAX_TABLES - 1);
+    lent.expect(short.answer, refused(3, 0));
+}
+
+/// The longest of several bodies: no stream of this form is longer.
+fn longest_stream_of_bodies(lent: &mut Lent) {
+    lent.begin("longest stream of several bodies");
+    lent.form = Form::SeveralBodies;
+    let m = post_couples(lent, MAX_DARTS);
+    lent.posted.shorten(MAX_TABLES);
+    lent.work.shorten(MAX_WORK);
+    let stream = write_whole(lent, m, 0);
+    lent.must(stream.len() == 21762, "the length is the longest");
     let whole = read_whole(lent, &stream, MAX_TABLES);
     lent.expect(whole.answer, reading(MAX_TABLES, 6, MAX_DARTS));
     feed_pages_of(lent, &stream, &whole, 4096);

@@ -180,8 +180,48 @@ pub fn post_pairs(lent: &mut Lent, darts: usize) -> Map {
     m
 }
 
+type Post = fn(&mut Lent) -> Map;
+
+/// Maps of one dimension side by side, none joined to another: each has its darts after those of the ones before.
+fn post_beside(lent: &mut Lent, parts: &[Post]) -> Map {
+    let (mut m, mut tables) = (Map { dim: 0, darts: 0 }, Vec::new());
+    for post in parts {
+        let part = post(lent);
+        tables.extend(lent.posted.at()[..part.entries()].iter().map(|e| e + m.darts as u16));
+        m = Map { dim: part.dim, darts: m.darts + part.darts };
+    }
+    post_free(lent, m.dim, m.darts);
+    lent.posted.at_mut()[..m.entries()].copy_from_slice(&tables);
+    m
+}
+
+/// The posted map with its darts renamed, dart d to stride·d mod n: so the darts of a body are not neighbours any more.
+/// The stride has no divisor in common with n.
+fn scatter(lent: &mut Lent, m: Map, stride: usize) -> Map {
+    let tables = lent.posted.at()[..m.entries()].to_vec();
+    for d in 0..m.darts {
+        for i in 0..=m.dim {
+            let partner = tables[m.place(i, d)] as usize;
+            lent.posted.at_mut()[m.place(i, stride * d % m.darts)] = (stride * partner % m.darts) as u16;
+        }
+    }
+    m
+}
+
+/// Pairs of darts, each tied to the other at every rank and to nothing else: the map of dimension 6 with the longest
+/// stream in the form of several bodies.
+pub fn post_couples(lent: &mut Lent, darts: usize) -> Map {
+    let m = post_free(lent, 6, darts);
+    for i in 0..=6 {
+        for d in 0..darts {
+            tie(lent, m, i, d, d ^ 1);
+        }
+    }
+    m
+}
+
 /// Name, how it is posted, and what the report says of it: cells by rank, free pairs, orientable.
-pub type Sample = (&'static str, fn(&mut Lent) -> Map, [usize; 7], usize, bool);
+pub type Sample = (&'static str, Post, [usize; 7], usize, bool);
 
 pub static SAMPLES: &[Sample] = &[
     ("lone dart", |l| post_free(l, 6, 1), [1; 7], 7, true),
@@ -204,4 +244,83 @@ pub static SAMPLES: &[Sample] = &[
     ("bits in six", |l| post_bits(l, 6), [2; 7], 0, true),
     ("paths in six", |l| post_paths(l, [4, 3, 5, 2]), [3, 2, 2, 2, 3, 3, 2], 188, true),
     ("most pairs", |l| post_pairs(l, MAX_DARTS), [1, 1, 1, 1, 1, 1025, 1024], 0, true),
+];
+
+fn loop_of_one(lent: &mut Lent) -> Map {
+    post_ring(lent, 1)
+}
+
+fn chain_of_five(lent: &mut Lent) -> Map {
+    post_chain(lent, 1, 5)
+}
+
+fn house(lent: &mut Lent) -> Map {
+    post_grid(lent, 3, 2, false)
+}
+
+fn shed(lent: &mut Lent) -> Map {
+    post_squares(lent, 1)
+}
+
+fn torus(lent: &mut Lent) -> Map {
+    post_grid(lent, 3, 2, true)
+}
+
+fn two_cubes(lent: &mut Lent) -> Map {
+    post_beside(lent, &[|l| post_box(l, 3, false), |l| post_box(l, 3, true)])
+}
+
+fn two_boxes_in_four(lent: &mut Lent) -> Map {
+    post_beside(lent, &[|l| post_box(l, 4, true), |l| post_box(l, 4, true)])
+}
+
+/// A loop, and a chain of five darts after it.
+pub fn loop_and_chain(lent: &mut Lent) -> Map {
+    post_beside(lent, &[loop_of_one, chain_of_five])
+}
+
+fn house_and_shed(lent: &mut Lent) -> Map {
+    post_beside(lent, &[house, shed])
+}
+
+fn houses_scattered(lent: &mut Lent) -> Map {
+    let m = house_and_shed(lent);
+    scatter(lent, m, 27)
+}
+
+fn squares_scattered(lent: &mut Lent) -> Map {
+    let m = post_squares(lent, 5);
+    scatter(lent, m, 7)
+}
+
+fn box_and_chain_in_five(lent: &mut Lent) -> Map {
+    post_beside(lent, &[|l| post_box(l, 5, true), |l| post_chain(l, 5, 6)])
+}
+
+fn four_in_six(lent: &mut Lent) -> Map {
+    let parts: [Post; 4] =
+        [|l| post_bits(l, 6), |l| post_paths(l, [4, 3, 5, 2]), |l| post_chain(l, 6, 6), |l| post_free(l, 6, 1)];
+    post_beside(lent, &parts)
+}
+
+/// A map of several bodies, and how many it has.
+pub type Site = (Sample, usize);
+
+pub static SITES: &[Site] = &[
+    (("two lone darts", |l| post_free(l, 1, 2), [2, 2, 0, 0, 0, 0, 0], 4, true), 2),
+    (("loop and chain", loop_and_chain, [4, 4, 0, 0, 0, 0, 0], 2, true), 2),
+    (("house and shed", house_and_shed, [16, 21, 7, 0, 0, 0, 0], 28, true), 2),
+    (("shed and house", |l| post_beside(l, &[shed, house]), [16, 21, 7, 0, 0, 0, 0], 28, true), 2),
+    (("band and torus", |l| post_beside(l, &[moebius_band, torus]), [8, 15, 7, 0, 0, 0, 0], 4, false), 2),
+    (("torus and bottle", |l| post_beside(l, &[torus, klein_bottle]), [7, 14, 7, 0, 0, 0, 0], 0, false), 2),
+    (("two bands", |l| post_beside(l, &[moebius_band, moebius_band]), [4, 6, 2, 0, 0, 0, 0], 8, false), 2),
+    (("cube and wrapped cube", two_cubes, [9, 15, 9, 2, 0, 0, 0], 48, true), 2),
+    (("two boxes in four", two_boxes_in_four, [2, 8, 12, 8, 2, 0, 0], 0, true), 2),
+    (("box and chain in five", box_and_chain_in_five, [5, 8, 11, 11, 6, 2, 0], 26, true), 2),
+    (("four in six", four_in_six, [10, 8, 6, 6, 7, 7, 6], 227, true), 4),
+    (("squares scattered", squares_scattered, [20, 20, 5, 0, 0, 0, 0], 40, true), 5),
+    (("houses scattered", houses_scattered, [16, 21, 7, 0, 0, 0, 0], 28, true), 2),
+    (("site of 64 squares", |l| post_squares(l, 64), [256, 256, 64, 0, 0, 0, 0], 512, true), 64),
+    (("as many bodies as darts", |l| post_free(l, 6, MAX_DARTS), [4096; 7], 28672, true), 4096),
+    (("most couples", |l| post_couples(l, MAX_DARTS), [2048; 7], 0, true), 2048),
 ];

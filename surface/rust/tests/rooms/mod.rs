@@ -3,14 +3,14 @@
 //! The cases in `calls.rs` add what they know about their own input.
 
 use kanzhulet::{
-    FacesAnswer, PageAnswer, ReadAnswer, Refusal, ReportAnswer, Session, State, WriteAnswer, MAX_DARTS, MAX_DIM,
+    FacesAnswer, Form, PageAnswer, ReadAnswer, Refusal, ReportAnswer, Session, State, WriteAnswer, MAX_DARTS, MAX_DIM,
     NO_LINK, RECORD,
 };
 
 pub const GUARD: usize = 32;
 pub const SPARE: usize = 32;
 /// 0 and the refusal numbers.
-pub const NUMBERS: usize = 30;
+pub const NUMBERS: usize = 31;
 const CANARY: u8 = 0xA5;
 
 /// Is it 0 or a refusal's? Between them are two numbers that are not.
@@ -117,6 +117,8 @@ fn no_link(entries: &[u16]) -> bool {
 /// All rooms that are lent to calls, and the numbers that some call has answered.
 pub struct Lent {
     what: &'static str,
+    /// The form in which the calls on a posted map are made.
+    pub form: Form,
     pub seen: [bool; NUMBERS],
     pub posted: Room<u16>,
     pub built: Room<u16>,
@@ -135,6 +137,7 @@ impl Lent {
         let beside = || Session::from_record(BESIDE);
         Lent {
             what: "",
+            form: Form::OneBody,
             seen: [false; NUMBERS],
             posted: Room::new(),
             built: Room::new(),
@@ -199,10 +202,28 @@ impl Lent {
     /// After every call but that of a face file: posted tables are kept, and the number is one that such a call may
     /// give.
     #[track_caller]
-    fn after_call<T>(&mut self, answer: &Result<T, Refusal>, most: u32) {
+    fn after_call<T>(&mut self, answer: &Result<T, Refusal>, may_be_given: bool) {
         self.after_any(answer);
         self.must(self.posted.kept(), "posted tables are kept");
-        self.must(number_of(answer) <= most, "such a call gives this number");
+        self.must(may_be_given, "such a call gives this number");
+    }
+
+    /// What the form refuses of a valid map: 9, several bodies, or 30, one body.
+    fn wrong_bodies(&self) -> u32 {
+        match self.form {
+            Form::OneBody => 9,
+            Form::SeveralBodies => 30,
+        }
+    }
+
+    /// After a call that takes a map, which may give the check's numbers and perhaps one more.
+    #[track_caller]
+    fn after_posting<T>(&mut self, answer: &Result<T, Refusal>, one_more: u32) {
+        let number = number_of(answer);
+        self.after_call(answer, number <= 8 || number == self.wrong_bodies() || number == one_more);
+        if let Err(refusal) = answer {
+            self.must(number != 30 || refusal.place == 0, "30 of a posted map has no place");
+        }
     }
 
     /// After a call that takes a map: the rooms of readings are kept, and the work room is as the number says.
@@ -216,7 +237,7 @@ impl Lent {
         }
         self.must(m.darts <= MAX_DARTS && self.work.kept_from(2 * m.darts), "the work room is kept past 2n");
         let (numbers, darts) = self.work.at()[..2 * m.darts].split_at(m.darts);
-        if number == 9 {
+        if number == self.wrong_bodies() {
             self.must(no_link(numbers) && no_link(darts), "the work room says no link");
             return;
         }
@@ -227,9 +248,12 @@ impl Lent {
     #[track_caller]
     pub fn check(&mut self, m: Map, root: usize) -> Result<(), Refusal> {
         self.before_call();
-        let answer = kanzhulet::check(m.dim, m.darts, root, self.posted.at(), self.work.at_mut());
+        let answer = match self.form {
+            Form::OneBody => kanzhulet::check(m.dim, m.darts, root, self.posted.at(), self.work.at_mut()),
+            Form::SeveralBodies => kanzhulet::check_bodies(m.dim, m.darts, root, self.posted.at(), self.work.at_mut()),
+        };
         let halves = answer.map(|a| (a.walk_numbers.to_vec(), a.darts.to_vec()));
-        self.after_call(&halves, 9);
+        self.after_posting(&halves, 0);
         self.after_walk(&halves, m, root);
         self.must(self.out.kept(), "nothing was written");
         let (numbers, darts) = halves?;
@@ -254,6 +278,7 @@ impl Lent {
         self.after_any(&answer);
         let number = number_of(&answer);
         self.must(matches!(number, 0 | 2..=4 | 9 | 26..=29), "a face file gives this number");
+        self.must(self.form == Form::OneBody, "a face file is checked as one body");
         self.must(self.out.kept() && self.built.kept(), "a face file has two rooms to write");
         if number != 0 && number != 9 {
             self.must(self.posted.kept() && self.work.kept(), "all but 0 and 9 change nothing");
@@ -271,9 +296,12 @@ impl Lent {
     #[track_caller]
     pub fn write(&mut self, m: Map, root: usize, start: usize) -> Result<WriteAnswer, Refusal> {
         self.before_call();
-        let answer =
-            kanzhulet::write(m.dim, m.darts, root, start, self.posted.at(), self.work.at_mut(), self.out.at_mut());
-        self.after_call(&answer, 10);
+        let (tables, work, out) = (self.posted.at(), self.work.at_mut(), self.out.at_mut());
+        let answer = match self.form {
+            Form::OneBody => kanzhulet::write(m.dim, m.darts, root, start, tables, work, out),
+            Form::SeveralBodies => kanzhulet::write_bodies(m.dim, m.darts, root, start, tables, work, out),
+        };
+        self.after_posting(&answer, 10);
         self.after_walk(&answer, m, root);
         match answer {
             Ok(a) => {
@@ -289,11 +317,14 @@ impl Lent {
     #[track_caller]
     pub fn report(&mut self, m: Map) -> Result<ReportAnswer, Refusal> {
         self.before_call();
-        let answer = kanzhulet::report(m.dim, m.darts, self.posted.at(), self.work.at_mut());
-        self.after_call(&answer, 9);
+        let answer = match self.form {
+            Form::OneBody => kanzhulet::report(m.dim, m.darts, self.posted.at(), self.work.at_mut()),
+            Form::SeveralBodies => kanzhulet::report_bodies(m.dim, m.darts, self.posted.at(), self.work.at_mut()),
+        };
+        self.after_posting(&answer, 0);
         let number = number_of(&answer);
         self.must(number != 5 && self.out.kept() && self.built.kept(), "the report has no root and one room to write");
-        if number == 0 || number == 9 {
+        if number == 0 || number == self.wrong_bodies() {
             let marked = no_link(&self.work.at()[..2 * m.darts]) && self.work.kept_from(2 * m.darts);
             self.must(marked, "the work room says no link in its first 2n entries");
         } else {
@@ -307,9 +338,9 @@ impl Lent {
 
     /// After a reading call that was not answered 19, 20 or by a refusal of before.
     #[track_caller]
-    fn after_reading(&mut self, number: u32, entries: usize) {
-        // 12 is not among them
-        self.must(matches!(number, 0 | 1 | 3 | 11 | 13..=18 | 21..=23), "a reading gives this number");
+    fn after_reading<T>(&mut self, answer: &Result<T, Refusal>, header: Header) {
+        let (number, entries) = (number_of(answer), header.entries);
+        self.must(is_found(number), "a reading gives this number");
         self.must(self.work.kept() && self.out.kept(), "a reading has one room to write");
         if number == 1 || number == 3 {
             self.must(self.built.kept(), "the tables are kept");
@@ -319,16 +350,25 @@ impl Lent {
         if number >= 11 {
             self.must(no_link(&self.built.at()[..entries]), "the tables say no link");
         }
+        match answer {
+            Err(Refusal { number: 15, place }) => {
+                self.must(header.form == Form::OneBody && *place < entries, "15 is of one body, with steps left");
+            }
+            Err(Refusal { number: 30, place }) => {
+                self.must(header.form == Form::SeveralBodies && *place == entries, "30 is of several, at the end");
+            }
+            _ => (),
+        }
     }
 
     #[track_caller]
     pub fn read(&mut self) -> Result<ReadAnswer, Refusal> {
         self.before_call();
         let answer = kanzhulet::read(self.page.at(), self.built.at_mut());
-        self.after_call(&answer, 23);
-        let number = number_of(&answer);
-        let entries = header_entries(&[0; RECORD], self.page.at());
-        self.after_reading(number, entries);
+        self.after_call(&answer, is_found(number_of(&answer)));
+        let header = Header::of(&[0; RECORD], self.page.at());
+        self.after_reading(&answer, header);
+        let entries = header.entries;
         if let Ok(a) = answer {
             let whole = a.steps == entries && (a.dim + 1) * a.darts == entries;
             self.must(whole, "all steps of the header's map are done");
@@ -341,6 +381,17 @@ impl Lent {
         self.sessions[1] = Session::open();
         self.must(self.record() == [0; RECORD], "a new session's numbers are 0");
         self.must(self.state() == Some(State::Header), "a new session waits for a header");
+        self.must(self.form_read() == Some(Form::OneBody) && self.bodies() == 0, "a new session has no body");
+    }
+
+    /// The form of the session's stream.
+    pub fn form_read(&self) -> Option<Form> {
+        self.sessions[1].form()
+    }
+
+    /// The bodies that the session has begun.
+    pub fn bodies(&self) -> usize {
+        self.sessions[1].bodies()
     }
 
     pub fn record(&self) -> [u32; RECORD] {
@@ -355,8 +406,23 @@ impl Lent {
         self.sessions[1] = Session::from_record(record);
     }
 
+    /// Form and bodies of a record that was not refused: those of a new one before the header, and then the header's
+    /// form and at least one body, of as many as there are darts numbered.
     #[track_caller]
-    fn after_session(&mut self, answer: Result<ReadAnswer, Refusal>, given: [u32; RECORD], entries: usize) {
+    fn after_bodies(&mut self, given: [u32; RECORD], header: Header) {
+        let record = self.record();
+        if record[0] == 0 {
+            self.must(record[15..] == [0, 0], "there is no form and no body before the header");
+            return;
+        }
+        let most = if record[15] == 1 { record[5] } else { 1 };
+        self.must(self.form_read() == Some(header.form), "the form is the header's");
+        self.must((1..=most).contains(&record[16]) && record[16] >= given[16], "so many bodies have begun");
+        self.must(self.bodies() == record[16] as usize, "the bodies are the record's");
+    }
+
+    #[track_caller]
+    fn after_session(&mut self, answer: Result<ReadAnswer, Refusal>, given: [u32; RECORD], header: Header) {
         let record = self.record();
         let number = number_of(&answer);
         if as_before(number, given) {
@@ -364,7 +430,7 @@ impl Lent {
             self.must(matches!(number, 19 | 20) || number == given[1], "the refusal is the record's");
             return;
         }
-        self.after_reading(number, entries);
+        self.after_reading(&answer, header);
         match answer {
             Err(refusal) => {
                 self.must(self.state() == Some(State::Refused(refusal)), "the state is that refusal");
@@ -376,6 +442,7 @@ impl Lent {
                 self.must(a.steps == steps as usize, "steps are the sum of the positions");
                 self.must(a.dim == record[3] as usize && a.darts == record[4] as usize, "N and n are the record's");
                 self.must(record[13] <= 13 && record[14] < 1 << record[13], "a symbol's first bits wait");
+                self.after_bodies(given, header);
             }
         }
     }
@@ -383,11 +450,11 @@ impl Lent {
     #[track_caller]
     pub fn page(&mut self) -> Result<PageAnswer, Refusal> {
         let given = self.record();
-        let entries = header_entries(&given, self.page.at());
+        let header = Header::of(&given, self.page.at());
         self.before_call();
         let answer = self.sessions[1].page(self.page.at(), self.built.at_mut());
-        self.after_call(&answer, 23);
-        self.after_session(answer.map(|a| a.reading), given, entries);
+        self.after_call(&answer, is_of_session(number_of(&answer)));
+        self.after_session(answer.map(|a| a.reading), given, header);
         self.must(number_of(&answer) != 11 || given[0] == 4, "a page does not cut the stream");
         self.must(answer.is_err() || self.record()[0] <= 2, "a page does not close");
         if let Ok(a) = answer {
@@ -399,11 +466,11 @@ impl Lent {
     #[track_caller]
     pub fn close(&mut self) -> Result<ReadAnswer, Refusal> {
         let given = self.record();
-        let entries = header_entries(&given, &[]);
+        let header = Header::of(&given, &[]);
         self.before_call();
         let answer = self.sessions[1].close(self.built.at_mut());
-        self.after_call(&answer, 23);
-        self.after_session(answer, given, entries);
+        self.after_call(&answer, is_of_session(number_of(&answer)));
+        self.after_session(answer, given, header);
         let number = number_of(&answer);
         self.must(number == 0 || number == 11 || as_before(number, given), "closing gives this number");
         if number == 0 {
@@ -430,15 +497,38 @@ fn as_before(number: u32, given: [u32; RECORD]) -> bool {
     number == 19 || number == 20 || given[0] == 4
 }
 
-/// The (N+1)·n of the header, from the record or else from the first two bytes; 0 while they are not all there.
-fn header_entries(given: &[u32; RECORD], bytes: &[u8]) -> usize {
-    if given[0] != 0 {
-        return (given[3] as usize + 1) * given[4] as usize;
-    }
-    let held = if given[13] == 8 { Some(given[14] as usize) } else { None };
-    let mut header = held.into_iter().chain(bytes.iter().map(|byte| *byte as usize));
-    match (header.next(), header.next()) {
-        (Some(first), Some(second)) => (first / 16 + 1) * (first % 16 * 256 + second + 1),
-        _ => 0,
+/// 0, or a number that a reading finds; 12 is none of them.
+fn is_found(number: u32) -> bool {
+    matches!(number, 0 | 1 | 3 | 11 | 13..=18 | 21..=23 | 30)
+}
+
+/// Those that a session is answered by.
+fn is_of_session(number: u32) -> bool {
+    is_found(number) || matches!(number, 12 | 19 | 20)
+}
+
+/// What the header says: (N+1)·n and the form.
+#[derive(Clone, Copy)]
+struct Header {
+    entries: usize,
+    form: Form,
+}
+
+impl Header {
+    /// The header from the record, or else from the first two bytes; no entries while they are not both there.
+    fn of(given: &[u32; RECORD], bytes: &[u8]) -> Header {
+        let of_form = |form| if form == 0 { Form::OneBody } else { Form::SeveralBodies };
+        if given[0] != 0 {
+            return Header { entries: (given[3] as usize + 1) * given[4] as usize, form: of_form(given[15]) };
+        }
+        let held = if given[13] == 8 { Some(given[14] as usize) } else { None };
+        let mut header = held.into_iter().chain(bytes.iter().map(|byte| *byte as usize));
+        match (header.next(), header.next()) {
+            (Some(first), Some(second)) => Header {
+                entries: (first / 16 % 8 + 1) * (first % 16 * 256 + second + 1),
+                form: of_form(first as u32 / 128),
+            },
+            _ => Header { entries: 0, form: Form::OneBody },
+        }
     }
 }
