@@ -14,8 +14,10 @@ use Rattle.rules.specs.Lists.{number}
 use Rattle.rules.specs.Bodies.{several}
 use Rattle.rules.specs.Map.{Layout, mark, size, place, link, blank, Valid}
 use Rattle.rules.specs.Reading.{permitted}
-use Rattle.rules.specs.Walk.{Walk, start, Head, head, linkOf, unknown, Partner, deduce, partner, pass, join, fresh, isNone, due, oneMore, resume, tie, Symbol, apply, enough}
-use Rattle.rules.specs.Walk.{Written, symbolOf, named, writeSymbol, writeWith, writeAt, resumeNames, resumed, writeStep, prepend, Walked, writeOn, write, walked, symbolsOf}
+use Rattle.rules.specs.Walk.{Walk, start, Head, head, linkOf, unknown, Partner, deduce, partner, pass, join, fresh, isNone, due, oneMore, resume, tie}
+use Rattle.rules.specs.Walk.{Symbol, apply, enough}
+use Rattle.rules.specs.Walk.{Written, symbolOf, named, writeSymbol, writeWith, writeAt, resumeNames, resumed, writeStep, prepend, Walked, writeOn}
+use Rattle.rules.specs.Walk.{write, walked, symbolsOf}
 use Rattle.rules.specs.Stream.{codes, header, filled}
 use Rattle.rules.specs.Writing.{stream}
 use Rattle.rules.specs.Exchange.{exchanged}

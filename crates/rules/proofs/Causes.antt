@@ -236,7 +236,8 @@ step-before w bs o = rw (one-step w bs o) (at (head w))
     at Head.none = unfold formerStep stepAt stepTogether together in refl
     at (Head.at j b) = unfold formerStep stepAt in with' j b (partner w j b)
 
--- with the three taken together every run of the one-body form is that of document 01: as many steps, the same walk and the same bits left, and 12 where one of them is given
+-- with the three taken together every run of the one-body form is that of document 01: as many steps, the same walk and the same bits left, and 12 where one of
+-- them is given
 pub as-before : (k : ℕ) (w : Walk) (bs : List Bool) → w .form ≡ One → formerRun k w bs ≡ together (run k w bs)
 unfolding formerRun run
 as-before zero w bs o = unfold together in refl

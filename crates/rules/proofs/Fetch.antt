@@ -18,7 +18,8 @@ use Rattle.rules.specs.declared.State.the-variants.{Header, Running, Com
 use Rattle.rules.specs.Map.{Layout}
 use Rattle.rules.specs.Stream.{bitsOf, value, unpack, pack, Taken, takeIndex, takeSymbol}
 use Rattle.rules.specs.Walk.{Walk, enough}
-use Rattle.rules.specs.Reading.{stepTaken, stepWith, stepAt, resuming, step, onward, run, runAll, Reading, spoiled, settle, readHeader, readingOf, closing}
+use Rattle.rules.specs.Reading.{stepTaken, stepWith, stepAt, resuming, step, onward, run, runAll, Reading, spoiled, settle, readHeader, readingOf}
+use Rattle.rules.specs.Reading.{closing}
 use Rattle.rules.specs.Reading.{goodAnswer, plainAnswer, answerOf, tablesOf, readWhole, readAnswer, readTables}
 use Rattle.rules.specs.Session.{idle, held, store, opened, waitingOf, begins, fit, unchanged, leaves, afterEnd, pageAs, ifFit, page, close, recordFor}
 use Rattle.rules.specs.Session.{tablesFor}

@@ -1,5 +1,5 @@
--- In the one-body form the walk over a map follows a renaming of its darts: where f carries m to m', the walk over m' from the root's new name is step for step the walk over m
--- from the root. It writes the same symbols, and its names are the renamed ones. So the stream does not change and the writer answers
+-- In the one-body form the walk over a map follows a renaming of its darts: where f carries m to m', the walk over m' from the root's new name is step for step
+-- the walk over m from the root. It writes the same symbols, and its names are the renamed ones. So the stream does not change and the writer answers
 -- the same. The check accepts both or neither and the report answers the same, in either form. Rests on Renamed, Cells, Check and Numbering.
 use Prim.Native.Nat.{ℕ, zero, suc, _≤_, _<_}
 use mathlib.Core.Path.{_≡_, refl, ap, sym, _∙_}
@@ -111,7 +111,8 @@ write-renamed {f} {m} {m'} {root} (suc k) w names v M A K o = rw (step-renamed w
         let g = moved w (y .walk) (y .out) v (y .move) in
         let A' : Valid (y .walk .layout) (y .walk .dim) (y .walk .darts) m = rw (g .grows .layout, g .grows .dim, g .grows .darts) A in
         let K' : Carries (y .walk .layout) (y .walk .layout) f (y .walk .dim) (y .walk .darts) m m' = rw (g .grows .layout, g .grows .dim, g .grows .darts) K in
-        rw (y .eq) (unfold writeOn renamedStep renamed prepend in ap (prepend (y .out)) (rec (y .walk) (y .names') (g .inv) (y .keeps) A' K' (g .grows .form ∙ o)))
+        let o' : y .walk .form ≡ One = g .grows .form ∙ o in
+        rw (y .eq) (unfold writeOn renamedStep renamed prepend in ap (prepend (y .out)) (rec (y .walk) (y .names') (g .inv) (y .keeps) A' K' o'))
 
 module _ {Y Z : Layout} {f : ℕ → ℕ} {N n : ℕ} {m m' : List ℕ} (K : Carries Y Z f N n m m')
     (h6 : N ≤ 6) (hn : n ≤ 4096) {root : ℕ} (hr : root < n) (A : Valid Y N n m) where
@@ -149,7 +150,8 @@ module _ {Y Z : Layout} {f : ℕ → ℕ} {N n : ℕ} {m m' : List ℕ} (K : Car
 
   -- a dart's walk number goes with it
   pub number-renamed : (d : ℕ) → d < n → number (namesOf One Z N n m' (f root)) (f d) ≡ number (namesOf One Y N n m root) d
-  number-renamed d h = rw names-renamed (number-mapped f n (K .once) (namesOf One Y N n m root) d (λ p l. unfold name in name-below One Y N n m root h6 hn hr A p l) h)
+  number-renamed d h = rw names-renamed
+      (number-mapped f n (K .once) (namesOf One Y N n m root) d (λ p l. unfold name in name-below One Y N n m root h6 hn hr A p l) h)
 
 -- the bodies that a form wants go along, and do not depend on the root
 module _ {Y Z : Layout} {f : ℕ → ℕ} {N n : ℕ} {m m' : List ℕ} (K : Carries Y Z f N n m m') (C : Closed Y N n m) (root : ℕ) where
@@ -211,8 +213,8 @@ module _ (F : Form) {Y Z : Layout} {f : ℕ → ℕ} {N n : ℕ} {m m' : List �
       })
 
 -- where the check is fine of both and the streams are equal the writer gives the same answer and leaves the same output
-module _ (F : Form) (Y Z : Layout) (N n : ℕ) (m m' : List ℕ) (root root' start : ℕ) (work out : List ℕ) (e : verdict F Y N n root m (length work) ≡ Verdict.fine)
-    (e' : verdict F Z N n root' m' (length work) ≡ Verdict.fine) (same : stream F Z N n m' root' ≡ stream F Y N n m root) where
+module _ (F : Form) (Y Z : Layout) (N n : ℕ) (m m' : List ℕ) (root root' start : ℕ) (work out : List ℕ)
+    (e : verdict F Y N n root m (length work) ≡ Verdict.fine) (e' : verdict F Z N n root' m' (length work) ≡ Verdict.fine) (same : stream F Z N n m' root' ≡ stream F Y N n m root) where
   page-same : (v : Verdict) → pageAfter F Z N n root' start m' (length out) v ≡ pageAfter F Y N n root start m (length out) v
   unfolding pageAfter
   page-same Verdict.fine = rw same

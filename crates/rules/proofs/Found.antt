@@ -14,7 +14,8 @@ use Rattle.rules.specs.Bodies.{noBodies}
 use Rattle.rules.specs.Map.{Layout, dimFits, size}
 use Rattle.rules.specs.Walk.{Walk, start, enough}
 use Rattle.rules.specs.Refusals.{among, ofIndex, atHeader, inStep, atEnd, wipes}
-use Rattle.rules.specs.Reading.{Run, run, runAll, Reading, spoiled, finish, settle, begun, headerForm, headerDim, headerDarts, readHeader, readingOf, closing}
+use Rattle.rules.specs.Reading.{Run, run, runAll, Reading, spoiled, finish, settle, begun, headerForm, headerDim, headerDarts, readHeader, readingOf}
+use Rattle.rules.specs.Reading.{closing}
 use Rattle.rules.specs.Reading.{goodAnswer, plainAnswer, answerOf, readWhole, readAnswer}
 use Rattle.rules.specs.Session.{walkOf, waitingOf, fitAs, fit, Left, unchanged, leaves, goOn, afterEnd, pageAs, closeAs, ifFit, page, close}
 use Rattle.rules.specs.Stream.{unpack}

@@ -26,7 +26,8 @@ use Rattle.rules.specs.Check.{checkAnswerOf, checkAnswer, checkWork}
 use Rattle.rules.specs.Writing.{stream, pageOf, startVerdict, writeVerdict, pageAfter, writeAnswerOf, writePage, writeAnswer, writeOut, writeWork}
 use Rattle.rules.specs.Reading.{Run, Step, stepAt, step, onward, run, runAll, Reading, spoiled, test, bodiesFound, manifold, finish, settle, begun}
 use Rattle.rules.specs.Reading.{headerForm, headerDim, headerDarts, readHeader, readingOf, closing, tablesOf, readWhole}
-use Rattle.rules.specs.Session.{store, walkAt, walkOf, waitingOf, valueFits, onlyBits, positionsFit, entriesFit, walkFits, asks, begins, allDone, fitAs, fit}
+use Rattle.rules.specs.Session.{store, walkAt, walkOf, waitingOf, valueFits, onlyBits, positionsFit, entriesFit, walkFits, asks, begins, allDone, fitAs}
+use Rattle.rules.specs.Session.{fit}
 use Rattle.rules.specs.Session.{Left, leaves, goOn, afterEnd, pageAs, closeAs, ifFit, page, close, recordFor, tablesFor}
 use Rattle.rules.specs.Fetch.{fetchOf, fetching, pageCall}
 use Rattle.rules.specs.Report.{reportAnswerOf, reportAnswer, reportWorkAfter, reportWork}
@@ -120,7 +121,9 @@ module _ (Y : Layout) (N n root : ℕ) (t : List ℕ) where
   -- 30 is not given, so of the refusals 9 alone wipes the work room
   nine-alone : (room nr p : ℕ) → verdict One Y N n root t room ≡ Verdict.refused nr p → ofBodies nr ≡ eqb nr 9
   unfolding ofBodies among
-  nine-alone room nr p e = rw (ne-eqb nr 30 (λ z. omega (arith, one-number One Y N n root t room refl (refused-case One Y N n root t room nr p e .0)))) (or-none (eqb nr 9))
+  nine-alone room nr p e =
+      let l = one-number One Y N n root t room refl (refused-case One Y N n root t room nr p e .0) in
+      rw (ne-eqb nr 30 (λ z. omega arith)) (or-none (eqb nr 9))
     where
       or-none : (b : Bool) → (b || (false || false)) ≡ b
       or-none true = refl
@@ -130,7 +133,8 @@ module _ (Y : Layout) (N n root : ℕ) (t : List ℕ) where
       → (checkAnswer One Y N n root t work ≡ checkAnswerOf (bareVerdict Y N n root t (length work)))
       × (checkWork One Y N n root t work ≡ bareWorkAfter Y N n root t work (bareVerdict Y N n root t (length work)))
   unfolding checkAnswer checkWork
-  check-bare work = (rw (verdict-bare (length work)), go (verdict One Y N n root t (length work)) refl ∙ ap (bareWorkAfter Y N n root t work) (verdict-bare (length work)))
+  check-bare work =
+      let e = verdict-bare (length work) in (rw e, go (verdict One Y N n root t (length work)) refl ∙ ap (bareWorkAfter Y N n root t work) e)
     where
       go : (v : Verdict) → verdict One Y N n root t (length work) ≡ v → workAfter One Y N n root t work v ≡ bareWorkAfter Y N n root t work v
       go Verdict.fine e = unfold workAfter bareWorkAfter numbering namesOf in
@@ -189,7 +193,7 @@ pub report-bare : (Y : Layout) (N n : ℕ) (t work : List ℕ)
     × (reportWork One Y N n t work ≡ bareReportWork n work (bareVerdict Y N n 0 t (length work)))
 unfolding reportAnswer reportWork
 report-bare Y N n t work =
-    (rw (verdict-bare Y N n 0 t (length work)), go (verdict One Y N n 0 t (length work)) refl ∙ ap (bareReportWork n work) (verdict-bare Y N n 0 t (length work)))
+    let e = verdict-bare Y N n 0 t (length work) in (rw e, go (verdict One Y N n 0 t (length work)) refl ∙ ap (bareReportWork n work) e)
   where
     go : (v : Verdict) → verdict One Y N n 0 t (length work) ≡ v → reportWorkAfter n work v ≡ bareReportWork n work v
     go Verdict.fine e = unfold reportWorkAfter bareReportWork in refl

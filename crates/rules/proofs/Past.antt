@@ -36,7 +36,8 @@ use Rattle.rules.specs.Check.{checkAnswerOf, checkAnswer, checkWork}
 use Rattle.rules.specs.Exchange.{movedPlace, refusalPlace, movedVerdict, movedCheck, movedWrite, movedReport}
 use Rattle.rules.specs.Writing.{stream, startVerdict, writeVerdict, pageAfter, writeAnswerOf, writePage, writeAnswer, writeOut, writeWork}
 use Rattle.rules.specs.Reading.{Run, Step, permitted, fault, allow, stepTaken, stepWith, stepAt, resuming, step, onward, run, runAll, Reading}
-use Rattle.rules.specs.Reading.{spoiled, test, bodiesFound, manifold, finish, settle, begun, headerForm, headerDim, headerDarts, readHeader, readingOf, closing, goodAnswer}
+use Rattle.rules.specs.Reading.{spoiled, test, bodiesFound, manifold, finish, settle, begun, headerForm, headerDim, headerDarts, readHeader, readingOf}
+use Rattle.rules.specs.Reading.{closing, goodAnswer}
 use Rattle.rules.specs.Reading.{answerOf, tablesOf, readWhole, readAnswer, readTables}
 use Rattle.rules.specs.Session.{idle, held, store, walkAt, walkOf, waitingOf, valueFits, positionsFit, entryFits, entriesFit, walkFits, asks, begins}
 use Rattle.rules.specs.Session.{allDone, fitAs}
@@ -114,7 +115,8 @@ module _ (F : Form) (Y Z : Layout) (N n root : ℕ) (t u work : List ℕ) (nr p 
 -- the report checks from dart 0
 module _ (F : Form) (Y Z : Layout) (N n : ℕ) (t u work : List ℕ) (nr p : ℕ) (e : verdict F Y N n 0 t (length work) ≡ Verdict.refused nr p)
     (q : verdict F Z N n 0 u (length work) ≡ movedVerdict Y Z N n (Verdict.refused nr p)) where
-  pub refused-report : (reportAnswer F Z N n u work ≡ movedReport Y Z N n (reportAnswer F Y N n t work)) × (reportWork F Z N n u work ≡ reportWork F Y N n t work)
+  pub refused-report : (reportAnswer F Z N n u work ≡ movedReport Y Z N n (reportAnswer F Y N n t work))
+      × (reportWork F Z N n u work ≡ reportWork F Y N n t work)
   unfolding reportAnswer reportAnswerOf reportWork reportWorkAfter movedVerdict movedReport
   refused-report = (rw (q, e), rw (q, e))
 
@@ -221,12 +223,14 @@ module _ {Y Z : Layout} {N n : ℕ} {t u : List ℕ} (S : SameMap Y Z N n t u) w
 
   -- the check gives the same answer, but for the place of 6 and 7, and leaves the same work room
   pub check-links : (F : Form) (root : ℕ) (work : List ℕ)
-      → (checkAnswer F Z N n root u work ≡ movedCheck Y Z N n (checkAnswer F Y N n root t work)) × (checkWork F Z N n root u work ≡ checkWork F Y N n root t work)
+      → (checkAnswer F Z N n root u work ≡ movedCheck Y Z N n (checkAnswer F Y N n root t work))
+      × (checkWork F Z N n root u work ≡ checkWork F Y N n root t work)
   check-links F root work = go (verdict F Y N n root t (length work)) refl (verdict-links F root (length work))
     where
       go : (v : Verdict) → verdict F Y N n root t (length work) ≡ v
           → verdict F Z N n root u (length work) ≡ movedVerdict Y Z N n (verdict F Y N n root t (length work))
-          → (checkAnswer F Z N n root u work ≡ movedCheck Y Z N n (checkAnswer F Y N n root t work)) × (checkWork F Z N n root u work ≡ checkWork F Y N n root t work)
+          → (checkAnswer F Z N n root u work ≡ movedCheck Y Z N n (checkAnswer F Y N n root t work))
+      × (checkWork F Z N n root u work ≡ checkWork F Y N n root t work)
       go Verdict.fine e q = unfold checkAnswer checkWork checkAnswerOf workAfter movedVerdict movedCheck refusalPlace among numbering in
           (rw (q, e), rw (q, e, names-links F root (length work) e))
       go (Verdict.refused nr p) e q = refused-check F Y Z N n root t u work nr p e (q ∙ ap (movedVerdict Y Z N n) e)
@@ -320,7 +324,8 @@ alike-links Y N n X one two t u A = go (alike-cases (size N n) t u A)
 pub check-alike : (F : Form) (Y : Layout) (N n root : ℕ) (t u work : List ℕ) → Alike (size N n) t u
     → (checkAnswer F Y N n root t work ≡ checkAnswer F Y N n root u work) × (checkWork F Y N n root t work ≡ checkWork F Y N n root u work)
 check-alike F Y N n root t u work A =
-    alike-links Y N n (λ t u. (checkAnswer F Y N n root t work ≡ checkAnswer F Y N n root u work) × (checkWork F Y N n root t work ≡ checkWork F Y N n root u work))
+    alike-links Y N n (λ t u. (checkAnswer F Y N n root t work ≡ checkAnswer F Y N n root u work)
+    × (checkWork F Y N n root t work ≡ checkWork F Y N n root u work))
     (λ l. (refl, refl)) (λ t u S. let (a, b) = check-links S F root work in (sym (a ∙ same-check Y N n _), sym b)) t u A
 
 -- the writer

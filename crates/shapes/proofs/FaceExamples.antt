@@ -6,7 +6,8 @@ use Rattle.rules.specs.Lists.{span, range, listOf, allBelow, someBelow, countBe
 use Rattle.rules.specs.Map.{byDart, dimFits, dartsFit, place, link, blank, pairs, pairsFor, pairsOf, broken, firstBroken, allRanks, allBut}
 use Rattle.rules.specs.Map.{spread, within, reaches}
 use Rattle.rules.specs.Walk.{start, headFrom, tail, linkOf, unknown, deduce, partner, pass, join, fresh, isNone, due, oneMore, resume, tie, steps, apply}
-use Rattle.rules.specs.Walk.{enough, symbolOf, named, writeSymbol, writeWith, writeAt, leastUnnumbered, resumeNames, resumed, writeStep, prepend, writeOn, write, walked, symbolsOf, namesOf}
+use Rattle.rules.specs.Walk.{enough, symbolOf, named, writeSymbol, writeWith, writeAt, leastUnnumbered, resumeNames, resumed, writeStep, prepend, writeOn}
+use Rattle.rules.specs.Walk.{write, walked, symbolsOf, namesOf}
 use Rattle.rules.specs.Bodies as forms
 use Rattle.rules.specs.Refusals.{among, ofBodies}
 use Rattle.rules.specs.Check.{refuseIf, spot, outside, twisted, unreached, bodiesVerdict, tablesVerdict, verdict, numbering, workAfter}
@@ -78,11 +79,12 @@ examples =
 
 pub examples-right : map (λ (x : Example). facesAnswer byDart (x .text) lent room) examples ≡ map (λ (x : Example). x .answer) examples
 unfolding examples lent room span range listOf allBelow someBelow countBelow scan first number sum dimFits dartsFit place link blank pairs pairsFor pairsOf
-    broken firstBroken allRanks allBut spread within reaches start headFrom tail linkOf unknown deduce partner pass join fresh isNone due oneMore resume tie steps apply enough
-    symbolOf named writeSymbol writeWith writeAt leastUnnumbered resumeNames resumed writeStep prepend writeOn write walked symbolsOf namesOf refuseIf spot outside twisted unreached bodiesVerdict
-    tablesVerdict verdict numbering workAfter among ofBodies isBlank commented gap wordFrom wordEnd lineEnd next provided word keyword isDigit value text.number several forms.several face file some cornersTo
-    corners allCorners cornerAt alike large poor third facesVerdict dartsOf vertexOf cornerBefore cornerAfter twin linkFrom rankAt dartAt mapOn cornersOf
-    readVerdict refusal facesAnswerOf tablesAfter facesAnswer facesTables facesWork
+    broken firstBroken allRanks allBut spread within reaches start headFrom tail linkOf unknown deduce partner pass join fresh isNone due oneMore resume tie
+    steps apply enough symbolOf named writeSymbol writeWith writeAt leastUnnumbered resumeNames resumed writeStep prepend writeOn write walked symbolsOf
+    namesOf refuseIf spot outside twisted unreached bodiesVerdict tablesVerdict verdict numbering workAfter among ofBodies isBlank commented gap wordFrom
+    wordEnd lineEnd next provided word keyword isDigit value text.number several forms.several face file some cornersTo corners allCorners cornerAt alike
+    large poor third facesVerdict dartsOf vertexOf cornerBefore cornerAfter twin linkFrom rankAt dartAt mapOn cornersOf readVerdict refusal facesAnswerOf
+    tablesAfter facesAnswer facesTables facesWork
 examples-right = refl
 
 -- two triangles with a side in common: OFF 4 2 0 a b c d e f g h i j k l\n3 0 1 2\n3 1 2 3
@@ -95,10 +97,11 @@ pub two-rooms : (facesTables byDart two lent room
     ≡ 1 ∷ 5 ∷ 0 ∷ 0 ∷ 2 ∷ 1 ∷ 3 ∷ 1 ∷ 6 ∷ 2 ∷ 4 ∷ 7 ∷ 5 ∷ 3 ∷ 4 ∷ 4 ∷ 0 ∷ 5 ∷ 7 ∷ 11 ∷ 2 ∷ 6 ∷ 8 ∷ 3 ∷ 9 ∷ 7 ∷ 8 ∷ 8 ∷ 10 ∷ 9 ∷ 11 ∷ 9 ∷ 10 ∷ 10 ∷ 6 ∷ 11 ∷ [])
     × (facesWork byDart two lent room
     ≡ 0 ∷ 1 ∷ 4 ∷ 5 ∷ 3 ∷ 2 ∷ 6 ∷ 7 ∷ 10 ∷ 11 ∷ 9 ∷ 8 ∷ 0 ∷ 1 ∷ 5 ∷ 4 ∷ 2 ∷ 3 ∷ 6 ∷ 7 ∷ 11 ∷ 10 ∷ 8 ∷ 9 ∷ [])
-unfolding two lent room span range listOf allBelow someBelow countBelow scan first number sum dimFits dartsFit place link blank pairs pairsFor pairsOf
-    broken firstBroken allRanks allBut spread within reaches start headFrom tail linkOf unknown deduce partner pass join fresh isNone due oneMore resume tie steps apply enough
-    symbolOf named writeSymbol writeWith writeAt leastUnnumbered resumeNames resumed writeStep prepend writeOn write walked symbolsOf namesOf refuseIf spot outside twisted unreached bodiesVerdict
-    tablesVerdict verdict numbering workAfter among ofBodies isBlank commented gap wordFrom wordEnd lineEnd next provided word keyword isDigit value text.number several forms.several face file some cornersTo
-    corners allCorners cornerAt alike large poor third facesVerdict dartsOf vertexOf cornerBefore cornerAfter twin linkFrom rankAt dartAt mapOn cornersOf
-    readVerdict refusal facesAnswerOf tablesAfter facesAnswer facesTables facesWork
+unfolding two lent room span range listOf allBelow someBelow countBelow scan first number sum dimFits dartsFit place link blank pairs pairsFor pairsOf broken
+    firstBroken allRanks allBut spread within reaches start headFrom tail linkOf unknown deduce partner pass join fresh isNone due oneMore resume tie steps
+    apply enough symbolOf named writeSymbol writeWith writeAt leastUnnumbered resumeNames resumed writeStep prepend writeOn write walked symbolsOf namesOf
+    refuseIf spot outside twisted unreached bodiesVerdict tablesVerdict verdict numbering workAfter among ofBodies isBlank commented gap wordFrom wordEnd
+    lineEnd next provided word keyword isDigit value text.number several forms.several face file some cornersTo corners allCorners cornerAt alike large poor
+    third facesVerdict dartsOf vertexOf cornerBefore cornerAfter twin linkFrom rankAt dartAt mapOn cornersOf readVerdict refusal facesAnswerOf tablesAfter
+    facesAnswer facesTables facesWork
 two-rooms = (refl, refl)

@@ -33,7 +33,8 @@ use Rattle.shapes.proofs.FaceCases.{SameTwo, alike-same, same-alike, Fa
 use Rattle.shapes.proofs.FaceCases.{faces-decided, case-faces, Flawless, flawless-faces}
 
 -- of a valid map with room for it only 9 can hold of the check from root 0
-pub valid-case : (Y : Layout) (N n : ℕ) (t : List ℕ) (room : ℕ) → Limits N n t → 2 * n ≤ room → Valid Y N n t → {nr p : ℕ} → Case One Y N n 0 t room nr p → nr ≡ 9
+pub valid-case : (Y : Layout) (N n : ℕ) (t : List ℕ) (room : ℕ) → Limits N n t → 2 * n ≤ room → Valid Y N n t → {nr p : ℕ}
+    → Case One Y N n 0 t room nr p → nr ≡ 9
 valid-case Y N n t room L w v (Case.dims h) = absurd (h (L .dims))
 valid-case Y N n t room L w v (Case.darts h) = absurd (h (L .darts))
 valid-case Y N n t room L w v (Case.tables h) = absurd (omega (arith, L .room))

@@ -188,7 +188,8 @@ others-leave Y text t work = go (readVerdict Y (file text) t (length work)) refl
 pub as-checked : (Y : Layout) (text t work : List ℕ) (m : File) (p : ℕ) → file text ≡ good m p
     → (facesAnswer Y text t work .number ≡ 0) ⊎ (facesAnswer Y text t work .number ≡ 9)
     → (facesTables Y text t work ≡ tablesIn Y m t)
-    × (checkAnswer One Y 2 (dartsIn m) 0 (tablesIn Y m t) work ≡ record { number = facesAnswer Y text t work .number; place = facesAnswer Y text t work .place })
+    × (checkAnswer One Y 2 (dartsIn m) 0 (tablesIn Y m t) work
+    ≡ record { number = facesAnswer Y text t work .number; place = facesAnswer Y text t work .place })
     × (facesWork Y text t work ≡ checkWork One Y 2 (dartsIn m) 0 (tablesIn Y m t) work)
 unfolding facesAnswer facesAnswerOf refusal facesTables tablesAfter facesWork readVerdict cornersOf checkAnswer checkAnswerOf checkWork
 as-checked Y text t work m p e o = rw e (go (faces-decided (m .vertices) (m .faces)) (rw e at o))
