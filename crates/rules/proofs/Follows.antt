@@ -111,8 +111,8 @@ write-renamed {f} {m} {m'} {root} (suc k) w names v M A K o = rw (step-renamed w
         let g = moved w (y .walk) (y .out) v (y .move) in
         let A' : Valid (y .walk .layout) (y .walk .dim) (y .walk .darts) m = rw (g .grows .layout, g .grows .dim, g .grows .darts) A in
         let K' : Carries (y .walk .layout) (y .walk .layout) f (y .walk .dim) (y .walk .darts) m m' = rw (g .grows .layout, g .grows .dim, g .grows .darts) K in
-        let o' : y .walk .form ≡ One = g .grows .form ∙ o in
-        rw (y .eq) (unfold writeOn renamedStep renamed prepend in ap (prepend (y .out)) (rec (y .walk) (y .names') (g .inv) (y .keeps) A' K' o'))
+        rw (y .eq) (unfold writeOn renamedStep renamed prepend in
+        ap (prepend (y .out)) (rec (y .walk) (y .names') (g .inv) (y .keeps) A' K' (g .grows .form ∙ o)))
 
 module _ {Y Z : Layout} {f : ℕ → ℕ} {N n : ℕ} {m m' : List ℕ} (K : Carries Y Z f N n m m')
     (h6 : N ≤ 6) (hn : n ≤ 4096) {root : ℕ} (hr : root < n) (A : Valid Y N n m) where
@@ -214,7 +214,8 @@ module _ (F : Form) {Y Z : Layout} {f : ℕ → ℕ} {N n : ℕ} {m m' : List �
 
 -- where the check is fine of both and the streams are equal the writer gives the same answer and leaves the same output
 module _ (F : Form) (Y Z : Layout) (N n : ℕ) (m m' : List ℕ) (root root' start : ℕ) (work out : List ℕ)
-    (e : verdict F Y N n root m (length work) ≡ Verdict.fine) (e' : verdict F Z N n root' m' (length work) ≡ Verdict.fine) (same : stream F Z N n m' root' ≡ stream F Y N n m root) where
+    (e : verdict F Y N n root m (length work) ≡ Verdict.fine)
+    (e' : verdict F Z N n root' m' (length work) ≡ Verdict.fine) (same : stream F Z N n m' root' ≡ stream F Y N n m root) where
   page-same : (v : Verdict) → pageAfter F Z N n root' start m' (length out) v ≡ pageAfter F Y N n root start m (length out) v
   unfolding pageAfter
   page-same Verdict.fine = rw same

@@ -230,7 +230,7 @@ module _ {Y Z : Layout} {N n : ℕ} {t u : List ℕ} (S : SameMap Y Z N n t u) w
       go : (v : Verdict) → verdict F Y N n root t (length work) ≡ v
           → verdict F Z N n root u (length work) ≡ movedVerdict Y Z N n (verdict F Y N n root t (length work))
           → (checkAnswer F Z N n root u work ≡ movedCheck Y Z N n (checkAnswer F Y N n root t work))
-      × (checkWork F Z N n root u work ≡ checkWork F Y N n root t work)
+          × (checkWork F Z N n root u work ≡ checkWork F Y N n root t work)
       go Verdict.fine e q = unfold checkAnswer checkWork checkAnswerOf workAfter movedVerdict movedCheck refusalPlace among numbering in
           (rw (q, e), rw (q, e, names-links F root (length work) e))
       go (Verdict.refused nr p) e q = refused-check F Y Z N n root t u work nr p e (q ∙ ap (movedVerdict Y Z N n) e)
