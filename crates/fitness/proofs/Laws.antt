@@ -16,9 +16,12 @@ use native.Mathlib.Numerals.{add-one}
 use Rattle.rules.specs.declared.Session.{Session}
 use Rattle.rules.specs.declared.State.{State}
 use Rattle.rules.specs.declared.Stand.{Stand}
+use Rattle.rules.specs.declared.Form.{Form}
+use Rattle.rules.specs.declared.Form.the-variants.{One, Several}
 use Rattle.rules.specs.declared.State.the-variants.{Header, Running, Complete, Closed, Refused}
 use Rattle.rules.specs.Lists.{allBelow}
 use Rattle.rules.specs.Map.{byDart, dimFits, dartsFit, size, place, link, Limits}
+use Rattle.rules.specs.Bodies.{several, bodiesFit, noBodies}
 use Rattle.rules.specs.Exchange.{rankAt, dartAt}
 use Rattle.rules.specs.Walk.{head}
 use Rattle.rules.specs.Stream.{bitsOf}
@@ -442,6 +445,42 @@ module _ (nr p : ℕ) where
   unfolding fitRefused atHeader among
   refusal-other a b r e = rw (ne-eqb nr 1 a, ne-eqb nr 3 b) e
 
+  -- and the bodies of a record that holds it
+  module _ (F : Form) (b : ℕ) (x : Bool) (ex : x ≡ noBodies F b) where
+    pub refused-bodies : not x ≡ true → false ≡ (fitRefused nr p && noBodies F b)
+    refused-bodies h = rw (← ex, not-true x h, and-no)
+
+    pub refused-number : not x ≡ false → (r : Bool) → r ≡ fitRefused nr p → r ≡ (fitRefused nr p && noBodies F b)
+    refused-number h r e = rw (← ex, not-false x h, and-yes) e
+
+-- the bodies by the form
+module _ (F : Form) (b : ℕ) where
+  pub none-one : F ≡ One → eqb b 0 ≡ noBodies F b
+  unfolding noBodies several
+  none-one e = rw e
+
+  pub none-several : F ≡ Several → false ≡ noBodies F b
+  unfolding noBodies several
+  none-several e = rw e
+
+  module _ (c : ℕ) where
+    pub bodies-none : b < 1 → false ≡ bodiesFit F b c
+    unfolding bodiesFit
+    bodies-none h = rw (lt-leb 1 b h)
+
+    pub bodies-over : c < b → false ≡ bodiesFit F b c
+    unfolding bodiesFit
+    bodies-over h = rw (lt-leb b c h, and-no)
+
+    module _ (h : 1 ≤ b) (l : b ≤ c) where
+      pub bodies-one : F ≡ One → eqb b 1 ≡ bodiesFit F b c
+      unfolding bodiesFit several
+      bodies-one e = rw (le-leb 1 b h, le-leb b c l, e)
+
+      pub bodies-several : F ≡ Several → true ≡ bodiesFit F b c
+      unfolding bodiesFit several
+      bodies-several e = rw (le-leb 1 b h, le-leb b c l, e)
+
 -- a header session
 module _ (s : Session) where
   pub only-dim : s .dim ≢ 0 → false ≡ onlyBits s
@@ -456,9 +495,14 @@ module _ (s : Session) where
   unfolding onlyBits
   only-count h = rw (ne-eqb (s .count) 0 h, and-no)
 
-  pub only-positions : s .dim ≡ 0 → s .darts ≡ 0 → s .count ≡ 0 → (r : Bool) → r ≡ allBelow 7 (isAt (s .positions) 0) → r ≡ onlyBits s
-  unfolding onlyBits isAt
-  only-positions hd hn hc r e = rw (eq-eqb (s .dim) 0 hd, eq-eqb (s .darts) 0 hn, eq-eqb (s .count) 0 hc) e
+  module _ (p : Bool) (ep : p ≡ allBelow 7 (isAt (s .positions) 0)) where
+    pub only-positions : not p ≡ true → false ≡ onlyBits s
+    unfolding onlyBits isAt
+    only-positions h = rw (← ep, not-true p h, and-no)
+
+    pub only-bodies : s .dim ≡ 0 → s .darts ≡ 0 → s .count ≡ 0 → not p ≡ false → (r : Bool) → r ≡ noBodies (s .form) (s .bodies) → r ≡ onlyBits s
+    unfolding onlyBits isAt
+    only-bodies hd hn hc hp r e = rw (eq-eqb (s .dim) 0 hd, eq-eqb (s .darts) 0 hn, eq-eqb (s .count) 0 hc, ← ep, not-false p hp) e
 
   abbrev fitHeader : Bool
   fitHeader = (eqb (s .waiting) 0 || eqb (s .waiting) 8) && valueFits s && onlyBits s
@@ -557,6 +601,10 @@ module _ (s : Session) (t : List ℕ) where
   unfolding walkFits
   walk-over h = rw (lt-leb (s .count) (s .darts) h, and-no)
 
+  pub walk-bodies : (b : Bool) → b ≡ bodiesFit (s .form) (s .bodies) (s .count) → not b ≡ true → false ≡ walkFits byDart s t
+  unfolding walkFits
+  walk-bodies b e h = rw (← e, not-true b h, and-no)
+
   module _ (f : Bool) (ef : f ≡ allBelow (suc (s .dim)) (fallsAt (s .count) (s .positions))) where
     pub walk-rising : not f ≡ true → false ≡ walkFits byDart s t
     unfolding walkFits positionsFit fallsAt
@@ -568,10 +616,10 @@ module _ (s : Session) (t : List ℕ) where
       walk-past h = rw (← ep, not-true p h, and-no, and-no)
 
       -- every test but that of the entries passes
-      pub walk-entries : Sized s t → not f ≡ false → not p ≡ false
+      pub walk-entries : Sized s t → (b : Bool) → b ≡ bodiesFit (s .form) (s .bodies) (s .count) → not b ≡ false → not f ≡ false → not p ≡ false
           → (r : Bool) → r ≡ allBelow (size (s .dim) (s .darts)) (entryAt (s .dim) (s .darts) t (s .count) (s .positions)) → r ≡ walkFits byDart s t
       unfolding walkFits positionsFit entriesFit entryFits fallsAt overAt entryAt entryOf entryBy
-      walk-entries k hf hp r e = rw (all-sized k, ← ef, not-false f hf, ← ep, not-false p hp) e
+      walk-entries k b eb hb hf hp r e = rw (all-sized k, ← eb, not-false b hb, ← ef, not-false f hf, ← ep, not-false p hp) e
 
   -- what it says of the limits
   fits-limits : walkFits byDart s t ≡ true → Limits (s .dim) (s .darts) t
@@ -581,7 +629,9 @@ module _ (s : Session) (t : List ℕ) where
       let b = dartsFit (s .darts) in
       let c = leb (size (s .dim) (s .darts)) (length t) in
       let counted = a && b && c && leb 1 (s .count) in
-      let placed = and-left (counted && leb (s .count) (s .darts)) (positionsFit s) (and-left _ (entriesFit byDart s t) e) in
+      let most = counted && leb (s .count) (s .darts) in
+      let begun = bodiesFit (s .form) (s .bodies) (s .count) in
+      let placed = and-left most begun (and-left (most && begun) (positionsFit s) (and-left _ (entriesFit byDart s t) e)) in
       let all = and-left (a && b && c) (leb 1 (s .count)) (and-left counted (leb (s .count) (s .darts)) placed) in
       let d = and-left a b (and-left (a && b) c all) in
       let n = and-right a b (and-left (a && b) c all) in
@@ -647,6 +697,6 @@ module _ (s : Session) (t : List ℕ) where
   unfolding fitAs
   fit-closed e = fit-as Closed e
 
-  pub fit-refused : (nr p : ℕ) → s .state ≡ Refused nr p → (r : Bool) → r ≡ fitRefused nr p → r ≡ fit byDart s t
+  pub fit-refused : (nr p : ℕ) → s .state ≡ Refused nr p → (r : Bool) → r ≡ (fitRefused nr p && noBodies (s .form) (s .bodies)) → r ≡ fit byDart s t
   unfolding fitAs
   fit-refused nr p e r q = q ∙ fit-as (Refused nr p) e

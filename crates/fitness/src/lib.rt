@@ -1,4 +1,5 @@
 // Fitness of a session, as document 01 lists it: any record, any tables.
+use rules::Form;
 use rules::Session;
 use rules::Stand;
 use rules::State;
@@ -12,6 +13,7 @@ ghost use lib.Dec.{eqb, ltb, leb};
 ghost use Rattle.rules.specs.Lists.{allBelow};
 ghost use Rattle.rules.specs.Map.{byDart, Limits, size};
 ghost use Rattle.rules.specs.Stream.{bitsOf};
+ghost use Rattle.rules.specs.Bodies.{bodiesFit, noBodies};
 ghost use Rattle.rules.specs.Refusals.{fitRefused};
 ghost use Rattle.rules.specs.Session.{walkAt, valueFits, onlyBits, walkFits, allDone, fitAs};
 ghost use Rattle.rules.specs.Inner.{Shape};
@@ -34,7 +36,34 @@ pub fn positions_are(k: usize, x: u16, positions: [u16; 7]) -> bool
     true
 }
 
-// Every number but the bits is 0.
+// The one-body form with no body begun, as at opening and when refused.
+pub fn no_bodies(form: Form, bodies: u16) -> bool
+    ensures { λ r. ⌜ r ≡ noBodies form bodies ⌝ }
+{
+    match form {
+        Form::One => bodies == 0,
+        Form::Several => false,
+    }
+}
+
+// A walk has begun a body, and no more bodies than it has numbered darts, since each begins with a new one; in the
+// one-body form exactly one.
+pub fn bodies_fit(form: Form, bodies: u16, count: u16) -> bool
+    ensures { λ r. ⌜ r ≡ bodiesFit form bodies count ⌝ }
+{
+    if bodies < 1 {
+        return false;
+    }
+    if count < bodies {
+        return false;
+    }
+    match form {
+        Form::One => bodies == 1,
+        Form::Several => true,
+    }
+}
+
+// Every number but the bits is 0, and the form is one-body.
 pub fn only_bits(s: Session) -> bool
     ensures { λ r. ⌜ r ≡ onlyBits s ⌝ }
 {
@@ -48,7 +77,11 @@ pub fn only_bits(s: Session) -> bool
         return false;
     }
     let positions = s.positions;
-    positions_are(7, 0, positions)
+    if !positions_are(7, 0, positions) {
+        return false;
+    }
+    let form = s.form;
+    no_bodies(form, s.bodies)
 }
 
 // Positions fall or stay equal by rank, and none is above count.
@@ -208,8 +241,8 @@ pub fn walk_fits(s: Session, tables: &[u16]) -> bool
 {
     let dim = s.dim as usize;
     let darts = s.darts as usize;
-    let count = s.count;
     let positions = s.positions;
+    let form = s.form;
     if dim < 1 {
         return false;
     }
@@ -225,19 +258,22 @@ pub fn walk_fits(s: Session, tables: &[u16]) -> bool
     if tables.len() < (dim + 1) * darts {
         return false;
     }
-    if count < 1 {
+    if s.count < 1 {
         return false;
     }
-    if darts < count as usize {
+    if darts < s.count as usize {
         return false;
     }
-    if !positions_fall(dim, count, positions) {
+    if !bodies_fit(form, s.bodies, s.count) {
+        return false;
+    }
+    if !positions_fall(dim, s.count, positions) {
         return false;
     }
     if !positions_past(dim, positions) {
         return false;
     }
-    entries_fit(tables, dim, darts, count, positions)
+    entries_fit(tables, dim, darts, s.count, positions)
 }
 
 // The rank of the lowest queue that isn't empty, or N+1. The queues below it are empty, so it holds the numbers from
@@ -369,11 +405,12 @@ pub fn wipes(number: u32) -> bool
         21 => true,
         22 => true,
         23 => true,
+        30 => true,
         _ => false,
     }
 }
 
-// Is a refused session fit?
+// May a refused session hold this number and place?
 pub fn refusal_fits(number: u32, place: u32) -> bool
     ensures { λ r. ⌜ r ≡ fitRefused number place ⌝ }
 {
@@ -382,6 +419,17 @@ pub fn refusal_fits(number: u32, place: u32) -> bool
         3 => place == 0,
         _ => wipes(number),
     }
+}
+
+// Is a refused session fit? Its other numbers are not asked, but it has no body.
+pub fn refused_fits(s: Session, number: u32, place: u32) -> bool
+    ensures { λ r. ⌜ r ≡ (fitRefused number place && noBodies (s .form) (s .bodies)) ⌝ }
+{
+    let form = s.form;
+    if !no_bodies(form, s.bodies) {
+        return false;
+    }
+    refusal_fits(number, place)
 }
 
 // Is a session fit, with the tables lent?
@@ -394,6 +442,6 @@ pub fn fit(s: Session, tables: &[u16]) -> bool
         State::Running => running_fits(s, tables),
         State::Complete => complete_fits(s, tables),
         State::Closed => true,
-        State::Refused(number, place) => refusal_fits(number, place),
+        State::Refused(number, place) => refused_fits(s, number, place),
     }
 }

@@ -28,8 +28,8 @@ enum-told-4 c = search needs
 enum-known-state : tie.Need-enum-known-state
 enum-known-state c = search needs
 
-refusal-fits-requires : tie.Need-refusal-fits-requires
-refusal-fits-requires c κs = search needs
+refused-fits-requires : tie.Need-refused-fits-requires
+refused-fits-requires c κs = search needs
 
 returns : tie.Need-returns
 returns c = fit-header _ _ (c .before .enum-told .given .1) _ (c .header-fits .ensures)
@@ -44,7 +44,7 @@ returns-4 : tie.Need-returns-4
 returns-4 c = fit-closed _ _ (c .enum-told4 .given .1)
 
 returns-5 : tie.Need-returns-5
-returns-5 c = fit-refused _ _ _ _ (c .before .before .state .given .1) _ (c .refusal-fits .ensures)
+returns-5 c = fit-refused _ _ _ _ (c .before .before .state .given .1) _ (c .refused-fits .ensures)
 
 pub fit-spec : {M : Type 1} → statement M
 fit-spec =
@@ -58,7 +58,7 @@ fit-spec =
     complete-fits-requires
     enum-told-4
     enum-known-state
-    refusal-fits-requires
+    refused-fits-requires
     returns
     returns-2
     returns-3

@@ -4,7 +4,7 @@ use native.Mathlib.Omega.{arith}
 use borrow.Author.Needs.{needs}
 use borrow.Author.Tests.{not-false}
 use Rattle.fitness.proofs.Laws.{Sized, falls-below, falls-last, few-entries, walk-low, walk-high, walk-none, walk-many, walk-short, walk-empty}
-use Rattle.fitness.proofs.Laws.{walk-over, walk-rising, walk-past, walk-entries}
+use Rattle.fitness.proofs.Laws.{walk-over, walk-bodies, walk-rising, walk-past, walk-entries}
 use Rattle.fitness.proofs.walk_fits.Statement.{statement}
 use Rattle.fitness.proofs.walk_fits.Tie as tie
 
@@ -14,7 +14,7 @@ start c = c .before .before .before .before .before
 
 -- the fourth test passed, from the seventh
 abbrev fourth : tie.Else7 → tie.Else4
-fourth c = c .before .before .before
+fourth c = c .before .before .before .before .before
 
 abbrev first : tie.Else4 → tie.Else1
 first c = c .before .before .before
@@ -28,8 +28,8 @@ sized c =
       high = d .before .before .if2 .left;
       some = d .before .if3 .left;
       most = d .if4 .left;
-      room = c .before .before .if5 .left;
-      first = c .before .if6 .left;
+      room = c .before .before .before .before .if5 .left;
+      first = c .before .before .if6 .left;
       within = c .if7 .left;
     }
 
@@ -69,29 +69,36 @@ cast-if7 c = search needs
 returns-7 : tie.Need-returns-7
 returns-7 c = walk-over _ _ (c .if7 .taken)
 
+bodies-fit-requires : tie.Need-bodies-fit-requires
+bodies-fit-requires c κs = search needs
+
+returns-8 : tie.Need-returns-8
+returns-8 c = walk-bodies _ _ _ (c .before .bodies-fit .ensures) (c .if8 .taken)
+
 positions-fall-requires : tie.Need-positions-fall-requires
 positions-fall-requires c κs = search needs
 
-returns-8 : tie.Need-returns-8
-returns-8 c = walk-rising _ _ _ (c .before .positions-fall .ensures) (c .if8 .taken)
+returns-9 : tie.Need-returns-9
+returns-9 c = walk-rising _ _ _ (c .before .positions-fall .ensures) (c .if9 .taken)
 
 positions-past-requires : tie.Need-positions-past-requires
 positions-past-requires c κs = search needs
 
-returns-9 : tie.Need-returns-9
-returns-9 c = walk-past _ _ _ (c .before .before .before .positions-fall .ensures) _ (c .before .positions-past .ensures) (c .if9 .taken)
+returns-10 : tie.Need-returns-10
+returns-10 c = walk-past _ _ _ (c .before .before .before .positions-fall .ensures) _ (c .before .positions-past .ensures) (c .if10 .taken)
 
 entries-fit-requires : tie.Need-entries-fit-requires
 entries-fit-requires c κs =
-    let e = sym (c .before .before .before .positions-fall .ensures) ∙ not-false _ (c .before .before .if8 .left) in
+    let e = sym (c .before .before .before .positions-fall .ensures) ∙ not-false _ (c .before .before .if9 .left) in
     (search needs, search needs, λ i h. omega (arith, falls-below _ _ _ e i h), falls-last _ _ _ e)
 
-returns-10 : tie.Need-returns-10
-returns-10 c =
+returns-11 : tie.Need-returns-11
+returns-11 c =
     let p = c .before in
     let f = p .before .before in
+    let b = f .before .before in
     walk-entries _ _ _ (f .before .positions-fall .ensures) _ (p .before .positions-past .ensures)
-    (sized (f .before .before)) (f .if8 .left) (p .if9 .left) _ (c .entries-fit .ensures)
+    (sized (b .before .before)) _ (b .before .bodies-fit .ensures) (b .if8 .left) (f .if9 .left) (p .if10 .left) _ (c .entries-fit .ensures)
 
 pub walk-fits-spec : {M : Type 1} → statement M
 walk-fits-spec =
@@ -109,9 +116,11 @@ walk-fits-spec =
     returns-6
     cast-if7
     returns-7
-    positions-fall-requires
+    bodies-fit-requires
     returns-8
-    positions-past-requires
+    positions-fall-requires
     returns-9
+    positions-past-requires
+    returns-10
     entries-fit-requires
-    returns-10)
+    returns-11)

@@ -58,23 +58,42 @@ returns-11 c = arm (c .before .args .number) 23 (omega arith) refl
 
 returns-12 : tie.Need-returns-12
 unfolding refusals.wipes ofIndex inStep atEnd among
-returns-12 c =
+returns-12 c = arm (c .before .args .number) 30 (omega arith) refl
+
+returns-13 : tie.Need-returns-13
+unfolding refusals.wipes ofIndex inStep atEnd among
+returns-13 c =
     let nr = c .before .args .number in
     let r = c .match .rest in
     rw (
-      ne-eqb nr 11 (r .0 .0 .0 .0 .0 .0 .0 .0 .0 .0 .1),
-      ne-eqb nr 12 (r .0 .0 .0 .0 .0 .0 .0 .0 .0 .1),
-      ne-eqb nr 13 (r .0 .0 .0 .0 .0 .0 .0 .0 .1),
-      ne-eqb nr 14 (r .0 .0 .0 .0 .0 .0 .0 .1),
-      ne-eqb nr 15 (r .0 .0 .0 .0 .0 .0 .1),
-      ne-eqb nr 16 (r .0 .0 .0 .0 .0 .1),
-      ne-eqb nr 17 (r .0 .0 .0 .0 .1),
-      ne-eqb nr 18 (r .0 .0 .0 .1),
-      ne-eqb nr 21 (r .0 .0 .1),
-      ne-eqb nr 22 (r .0 .1),
-      ne-eqb nr 23 (r .1),
+      ne-eqb nr 11 (r .0 .0 .0 .0 .0 .0 .0 .0 .0 .0 .0 .1),
+      ne-eqb nr 12 (r .0 .0 .0 .0 .0 .0 .0 .0 .0 .0 .1),
+      ne-eqb nr 13 (r .0 .0 .0 .0 .0 .0 .0 .0 .0 .1),
+      ne-eqb nr 14 (r .0 .0 .0 .0 .0 .0 .0 .0 .1),
+      ne-eqb nr 15 (r .0 .0 .0 .0 .0 .0 .0 .1),
+      ne-eqb nr 16 (r .0 .0 .0 .0 .0 .0 .1),
+      ne-eqb nr 17 (r .0 .0 .0 .0 .0 .1),
+      ne-eqb nr 18 (r .0 .0 .0 .0 .1),
+      ne-eqb nr 21 (r .0 .0 .0 .1),
+      ne-eqb nr 22 (r .0 .0 .1),
+      ne-eqb nr 23 (r .0 .1),
+      ne-eqb nr 30 (r .1),
     )
 
 pub wipes-spec : {M : Type 1} → statement M
 wipes-spec =
-    tie.close (tie.spec returns returns-2 returns-3 returns-4 returns-5 returns-6 returns-7 returns-8 returns-9 returns-10 returns-11 returns-12)
+    tie.close
+    (tie.spec
+    returns
+    returns-2
+    returns-3
+    returns-4
+    returns-5
+    returns-6
+    returns-7
+    returns-8
+    returns-9
+    returns-10
+    returns-11
+    returns-12
+    returns-13)
