@@ -2,7 +2,7 @@
 use Prim.Native.Nat.{ℕ, zero, suc, _+_, _≤_, _<_}
 use mathlib.Core.Path.{_≡_, refl, ap, sym, _∙_}
 use mathlib.Core.Logic.{_≢_}
-use mathlib.Core.Bool.{Bool, true, false, not, cond}
+use mathlib.Core.Bool.{Bool, true, false, not, _&&_, cond}
 use mathlib.Core.List.{List, [], _∷_, _++_}
 use native.Mathlib.Omega.{arith}
 use native.Mathlib.Numerals.{add-one}
@@ -13,11 +13,13 @@ use borrow.Author.Tests.{ne-eqb, lt-ltb, le-ltb, lt-leb, le-leb, ltb-true, not-t
 use Rattle.rules.specs.declared.Session.{Session}
 use Rattle.rules.specs.declared.State.{State}
 use Rattle.rules.specs.declared.State.the-variants.{Refused}
+use Rattle.rules.specs.declared.Form.{Form}
+use Rattle.rules.specs.declared.Form.the-variants.{Several}
 use Rattle.rules.specs.declared.ReportAnswer.{ReportAnswer}
 use Rattle.rules.proofs.Lists.{and-left, and-right, entries, seven}
 use Rattle.stored.specs.Answers.{reportNumbers}
-use Rattle.stored.specs.Layout.{stateNumber, refusalNumber, refusalPlace, afterState, storedSession}
-use Rattle.stored.specs.Layout.{stateBy, positionsBy, sessionBy, stateStands, allNarrow, standing}
+use Rattle.stored.specs.Layout.{stateNumber, refusalNumber, refusalPlace, formNumber, afterState, storedSession}
+use Rattle.stored.specs.Layout.{stateBy, formBy, positionsBy, sessionBy, stateStands, formStands, allNarrow, standing}
 
 -- k entries from i on are a part of the list
 entries-part : (k i : ℕ) (r : List ℕ) → i + k ≤ length r → entries k i r ≡ take k (drop i r)
@@ -32,7 +34,8 @@ unfolding entries
 positions-by r h = entries-part 7 6 r h
 
 -- a session as the code reads it
-pub session-by : (r : List ℕ) (st : State) (p : List ℕ) → st ≡ stateBy (getD r 0 0) (getD r 1 0) (getD r 2 0) → p ≡ positionsBy r
+pub session-by : (r : List ℕ) (st : State) (p : List ℕ) (F : Form)
+    → st ≡ stateBy (getD r 0 0) (getD r 1 0) (getD r 2 0) → p ≡ positionsBy r → F ≡ formBy (getD r 15 0)
     → _≡_ {A = Session} (record {
       state = st;
       dim = getD r 3 0;
@@ -41,9 +44,11 @@ pub session-by : (r : List ℕ) (st : State) (p : List ℕ) → st ≡ stateBy (
       positions = p;
       waiting = getD r 13 0;
       value = getD r 14 0;
+      form = F;
+      bodies = getD r 16 0;
     }) (sessionBy r)
 unfolding sessionBy
-session-by r st p es ep = rw (es, ep) refl
+session-by r st p F es ep ef = rw (es, ep, ef) refl
 
 -- seven entries in front of a list
 seven-and : (p q : List ℕ) → length p ≡ 7
@@ -52,11 +57,12 @@ seven-and p q e = ap (λ l. l ++ q) (seven p e)
 
 -- a session as the code stores it
 pub stored-by : (s : Session) → length (s .positions) ≡ 7 → (p : List ℕ) → p ≡ s .positions
-    → (k nr pl : ℕ) → k ≡ stateNumber (s .state) → nr ≡ refusalNumber (s .state) → pl ≡ refusalPlace (s .state)
-    → (k ∷ nr ∷ pl ∷ s .dim ∷ s .darts ∷ s .count
-    ∷ getD p 0 0 ∷ getD p 1 0 ∷ getD p 2 0 ∷ getD p 3 0 ∷ getD p 4 0 ∷ getD p 5 0 ∷ getD p 6 0 ∷ s .waiting ∷ s .value ∷ []) ≡ storedSession s
+    → (k nr pl f : ℕ) → k ≡ stateNumber (s .state) → nr ≡ refusalNumber (s .state) → pl ≡ refusalPlace (s .state) → f ≡ formNumber (s .form)
+    → (k ∷ nr ∷ pl ∷ s .dim ∷ s .darts ∷ s .count ∷ getD p 0 0 ∷ getD p 1 0 ∷ getD p 2 0 ∷ getD p 3 0 ∷ getD p 4 0 ∷ getD p 5 0 ∷ getD p 6 0
+    ∷ s .waiting ∷ s .value ∷ f ∷ s .bodies ∷ []) ≡ storedSession s
 unfolding storedSession afterState
-stored-by s e p ep k nr pl ek en el = rw (ep, ek, en, el, seven-and (s .positions) (s .waiting ∷ s .value ∷ []) e)
+stored-by s e p ep k nr pl f ek en el ef =
+    rw (ep, ek, en, el, ef, seven-and (s .positions) (s .waiting ∷ s .value ∷ formNumber (s .form) ∷ s .bodies ∷ []) e)
 
 -- a report as the code stores it
 pub reported-by : (a : ReportAnswer) → length (a .cells) ≡ 7 → (o : ℕ) → o ≡ cond (a .orientable) 1 0
@@ -90,6 +96,10 @@ refused-by (suc (suc zero)) nr p h = absurd (omega arith)
 refused-by (suc (suc (suc zero))) nr p h = absurd (omega arith)
 refused-by (suc (suc (suc (suc k)))) nr p h = refl
 
+pub several-by : (k : ℕ) → 0 < k → Several ≡ formBy k
+several-by zero h = absurd (omega arith)
+several-by (suc k) h = refl
+
 -- the search for a number of more than 16 bits, at the number k
 module _ (r : List ℕ) (k : ℕ) where
   pub wide-here : k < length r → 65535 < getD r k 0 → false ≡ allNarrow (drop k r)
@@ -113,7 +123,14 @@ narrow-at (x ∷ l) h (suc k) = narrow-at l (and-right (ltb x 65536) (allNarrow 
 -- the numbers after the state of a record that a session stands for
 pub below : (r : List ℕ) → standing r ≡ true → (k : ℕ) → getD r (3 + k) 0 < 65536
 unfolding standing
-below r h k = rw (getD-drop 3 r k 0) at (narrow-at (drop 3 r) (and-right (stateStands (getD r 0 0) (getD r 1 0) (getD r 2 0)) (allNarrow (drop 3 r)) h) k)
+below r h k =
+    let first = stateStands (getD r 0 0) (getD r 1 0) (getD r 2 0) && formStands (getD r 15 0) in
+    rw (getD-drop 3 r k 0) at (narrow-at (drop 3 r) (and-right first (allNarrow (drop 3 r)) h) k)
+
+-- a test that fails after another
+and-no : (a : Bool) → (a && false) ≡ false
+and-no true = refl
+and-no false = refl
 
 -- does a session stand for the record?
 module _ (r : List ℕ) (x : Bool) (ex : x ≡ stateStands (getD r 0 0) (getD r 1 0) (getD r 2 0)) where
@@ -121,6 +138,10 @@ module _ (r : List ℕ) (x : Bool) (ex : x ≡ stateStands (getD r 0 0) (getD r 
   unfolding standing
   no-state q = rw (sym ex ∙ not-true x q)
 
-  pub by-numbers : not x ≡ false → (y : Bool) → y ≡ allNarrow (drop 3 r) → y ≡ standing r
-  unfolding standing
-  by-numbers q y ey = rw (sym ex ∙ not-false x q) ey
+  pub no-form : 1 < getD r 15 0 → false ≡ standing r
+  unfolding standing formStands
+  no-form h = rw (lt-leb (getD r 15 0) 1 h, and-no)
+
+  pub by-numbers : not x ≡ false → getD r 15 0 ≤ 1 → (y : Bool) → y ≡ allNarrow (drop 3 r) → y ≡ standing r
+  unfolding standing formStands
+  by-numbers q h y ey = rw (sym ex ∙ not-false x q, le-leb (getD r 15 0) 1 h) ey

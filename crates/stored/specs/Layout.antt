@@ -1,4 +1,4 @@
--- The stored record: a session as fifteen numbers, the session that fifteen numbers give, and which of them a session stands for.
+-- The stored record: a session as seventeen numbers, the session that seventeen numbers give, and which of them a session stands for.
 use Prim.Native.Nat.{ℕ, zero, suc}
 use mathlib.Core.List.{List, [], _∷_, _++_}
 use mathlib.Core.Bool.{Bool, true, _&&_, _||_}
@@ -7,6 +7,8 @@ use lib.Dec.{eqb, ltb, leb}
 use Rattle.rules.specs.declared.Session.{Session}
 use Rattle.rules.specs.declared.State.{State}
 use Rattle.rules.specs.declared.State.the-variants.{Header, Running, Complete, Closed, Refused}
+use Rattle.rules.specs.declared.Form.{Form}
+use Rattle.rules.specs.declared.Form.the-variants.{One, Several}
 
 -- a state's number
 abbrev pub stateNumber : State → ℕ
@@ -32,11 +34,16 @@ refusalPlace Complete = 0
 refusalPlace Closed = 0
 refusalPlace (Refused nr p) = p
 
--- the numbers after the state: N, n, count, seven positions, waiting bits and their value
-unfoldable pub afterState : Session → List ℕ
-afterState s = s .dim ∷ s .darts ∷ s .count ∷ (s .positions ++ (s .waiting ∷ s .value ∷ []))
+-- a form's number
+abbrev pub formNumber : Form → ℕ
+formNumber One = 0
+formNumber Several = 1
 
--- a session as fifteen numbers: state, refusal's number and place, and the numbers after the state
+-- the numbers after the state: N, n, count, seven positions, waiting bits and their value, form and bodies
+unfoldable pub afterState : Session → List ℕ
+afterState s = s .dim ∷ s .darts ∷ s .count ∷ (s .positions ++ (s .waiting ∷ s .value ∷ formNumber (s .form) ∷ s .bodies ∷ []))
+
+-- a session as seventeen numbers: state, refusal's number and place, and the numbers after the state
 unfoldable pub storedSession : Session → List ℕ
 storedSession s = stateNumber (s .state) ∷ refusalNumber (s .state) ∷ refusalPlace (s .state) ∷ afterState s
 
@@ -48,11 +55,16 @@ stateBy (suc (suc zero)) nr p = Complete
 stateBy (suc (suc (suc zero))) nr p = Closed
 stateBy (suc (suc (suc (suc k)))) nr p = Refused nr p
 
--- the seven positions of fifteen numbers
+-- the form of a number
+abbrev pub formBy : ℕ → Form
+formBy zero = One
+formBy (suc k) = Several
+
+-- the seven positions of seventeen numbers
 abbrev pub positionsBy : List ℕ → List ℕ
 positionsBy r = take 7 (drop 6 r)
 
--- the session of fifteen numbers
+-- the session of seventeen numbers
 unfoldable pub sessionBy : List ℕ → Session
 sessionBy r = record {
   state = stateBy (getD r 0 0) (getD r 1 0) (getD r 2 0);
@@ -62,13 +74,19 @@ sessionBy r = record {
   positions = positionsBy r;
   waiting = getD r 13 0;
   value = getD r 14 0;
+  form = formBy (getD r 15 0);
+  bodies = getD r 16 0;
 }
 
 -- only a refusal has number and place
 unfoldable pub stateStands : ℕ → ℕ → ℕ → Bool
 stateStands k nr p = leb k 4 && (eqb k 4 || (eqb nr 0 && eqb p 0))
 
--- the numbers after the state of fifteen numbers
+-- a form's number is 0 or 1
+unfoldable pub formStands : ℕ → Bool
+formStands k = leb k 1
+
+-- the numbers after the state of seventeen numbers
 abbrev pub afterBy : List ℕ → List ℕ
 afterBy r = drop 3 r
 
@@ -77,6 +95,6 @@ unfoldable pub allNarrow : List ℕ → Bool
 allNarrow [] = true
 allNarrow (x ∷ l) = ltb x 65536 && allNarrow l
 
--- a Session stands for fifteen numbers: its state does, and the numbers after the state have at most 16 bits
+-- a Session stands for seventeen numbers: its state does, its form does, and the numbers after the state have at most 16 bits
 unfoldable pub standing : List ℕ → Bool
-standing r = stateStands (getD r 0 0) (getD r 1 0) (getD r 2 0) && allNarrow (afterBy r)
+standing r = stateStands (getD r 0 0) (getD r 1 0) (getD r 2 0) && formStands (getD r 15 0) && allNarrow (afterBy r)

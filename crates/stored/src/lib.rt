@@ -1,5 +1,6 @@
-// The stored record and the stored answers: a session as fifteen numbers in a caller's own room, and an answer as its
-// numbers in order. Which number of a session stands where is known here and nowhere else.
+// The stored record and the stored answers: a session as seventeen numbers in a caller's own room, and an answer as
+// its numbers in order. Which number of a session stands where is known here and nowhere else.
+use rules::Form;
 use rules::PageAnswer;
 use rules::ReadAnswer;
 use rules::ReportAnswer;
@@ -9,16 +10,18 @@ ghost use mathlib.Core.Path.{_≡_};
 ghost use mathlib.Core.Bool.{true, cond};
 ghost use Rattle.rules.specs.Reading.{plainAnswer};
 ghost use Rattle.stored.specs.Answers.{readNumbers, pageNumbers, reportNumbers};
-ghost use Rattle.stored.specs.Layout.{stateNumber, refusalNumber, refusalPlace, storedSession, stateBy};
-ghost use Rattle.stored.specs.Layout.{positionsBy, sessionBy, stateStands, afterBy, allNarrow, standing};
+ghost use Rattle.stored.specs.Layout.{stateNumber, refusalNumber, refusalPlace, formNumber, storedSession};
+ghost use Rattle.stored.specs.Layout.{stateBy, formBy, positionsBy, sessionBy, stateStands, afterBy};
+ghost use Rattle.stored.specs.Layout.{allNarrow, standing};
 
 // How many numbers a record has.
-const NUMBERS: usize = 15;
+const NUMBERS: usize = 17;
 
 // How many of them, the first, are the state's.
 const OF_STATE: usize = 3;
 
-// A record: state, refusal's number and place; then N, n, count, seven positions, the waiting bits and their value.
+// A record: state, refusal's number and place; then N, n, count, seven positions, the waiting bits and their value;
+// form and bodies last, so that the others stand where they stood without them.
 pub type Record = [u32; NUMBERS];
 
 // A reading's answer as stored: number, place, steps, N, n.
@@ -136,6 +139,16 @@ pub fn refusal_place(state: State) -> u32
     }
 }
 
+// A form's number.
+pub fn form_number(form: Form) -> u32
+    ensures { λ r. ⌜ r ≡ formNumber form ⌝ }
+{
+    match form {
+        Form::One => 0,
+        Form::Several => 1,
+    }
+}
+
 // Positions as stored.
 pub fn stored_positions(p: [u16; 7]) -> [u32; 7]
     ensures { λ r. ⌜ r ≡ p ⌝ }
@@ -158,6 +171,8 @@ pub fn stored_session(s: Session) -> Record
     let state = s.state;
     let given = s.positions;
     let p = stored_positions(given);
+    let form = s.form;
+    let f = form_number(form);
     [
         state_number(state),
         refusal_number(state),
@@ -174,6 +189,8 @@ pub fn stored_session(s: Session) -> Record
         p[6],
         s.waiting as u32,
         s.value as u32,
+        f,
+        s.bodies as u32,
     ]
 }
 
@@ -207,11 +224,14 @@ pub fn narrow(kept: Record) -> bool
     true
 }
 
-// Does a session stand for the record?
+// Does a session stand for the record? There are two forms, 0 and 1.
 pub fn stands(kept: Record) -> bool
     ensures { λ r. ⌜ r ≡ standing kept ⌝ }
 {
     if !state_stands(kept[0], kept[1], kept[2]) {
+        return false;
+    }
+    if 1 < kept[15] {
         return false;
     }
     narrow(kept)
@@ -227,6 +247,16 @@ pub fn state_of(state: u32, number: u32, place: u32) -> State
         2 => State::Complete,
         3 => State::Closed,
         _ => State::Refused(number, place),
+    }
+}
+
+// The form of a number.
+pub fn form_of(form: u32) -> Form
+    ensures { λ r. ⌜ r ≡ formBy form ⌝ }
+{
+    match form {
+        0 => Form::One,
+        _ => Form::Several,
     }
 }
 
@@ -253,6 +283,8 @@ pub fn session_of(kept: Record) -> Session
 {
     let state = state_of(kept[0], kept[1], kept[2]);
     let positions = positions_of(kept);
+    let form = form_of(kept[15]);
+    let bodies = kept[16] as u16;
     Session {
         state,
         dim: kept[3] as u16,
@@ -261,5 +293,7 @@ pub fn session_of(kept: Record) -> Session
         positions,
         waiting: kept[13] as u16,
         value: kept[14] as u16,
+        form,
+        bodies,
     }
 }

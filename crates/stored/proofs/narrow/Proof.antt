@@ -12,7 +12,7 @@ abbrev Inv-loop : tie.InvT-loop
 Inv-loop kept k₀ k = allNarrow (drop 3 kept) ≡ allNarrow (drop k kept)
 
 abbrev μ-loop : tie.MeasureT-loop
-μ-loop kept k₀ k = 15 - k
+μ-loop kept k₀ k = 17 - k
 
 loop-holds : tie.Need-loop-holds Inv-loop μ-loop
 loop-holds c = refl

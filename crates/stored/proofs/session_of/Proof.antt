@@ -19,38 +19,53 @@ state-of-requires c κs = search needs
 positions-of-requires : tie.Need-positions-of-requires
 positions-of-requires c κs = search needs
 
-array-read-t7 : tie.Need-array-read-t7
-array-read-t7 c = search needs
+array-read-form-of : tie.Need-array-read-form-of
+array-read-form-of c = search needs
 
-cast-t17 : tie.Need-cast-t17
-cast-t17 c = let a = c .before .before in record { fits = below (a .args .t1) (a .pre) 0 }
+form-of-requires : tie.Need-form-of-requires
+form-of-requires c κs = search needs
 
-array-read-t10 : tie.Need-array-read-t10
-array-read-t10 c = search needs
+array-read-bodies : tie.Need-array-read-bodies
+array-read-bodies c = search needs
 
-cast-t20 : tie.Need-cast-t20
-cast-t20 c = let a = c .before .before in record { fits = below (a .args .t1) (a .pre) 1 }
+cast-bodies : tie.Need-cast-bodies
+cast-bodies c = let a = c .before .before .before in record { fits = below (a .args .t1) (a .pre) 13 }
 
-array-read-t13 : tie.Need-array-read-t13
-array-read-t13 c = search needs
+array-read-t9 : tie.Need-array-read-t9
+array-read-t9 c = search needs
 
 cast-t23 : tie.Need-cast-t23
-cast-t23 c = let a = c .before .before in record { fits = below (a .args .t1) (a .pre) 2 }
+cast-t23 c = let a = c .before .before .before in record { fits = below (a .args .t1) (a .pre) 0 }
 
-array-read-t26 : tie.Need-array-read-t26
-array-read-t26 c = search needs
+array-read-t12 : tie.Need-array-read-t12
+array-read-t12 c = search needs
 
-cast-t27 : tie.Need-cast-t27
-cast-t27 c = let a = c .before .before in record { fits = below (a .args .t1) (a .pre) 10 }
+cast-t26 : tie.Need-cast-t26
+cast-t26 c = let a = c .before .before .before in record { fits = below (a .args .t1) (a .pre) 1 }
 
-array-read-t30 : tie.Need-array-read-t30
-array-read-t30 c = search needs
+array-read-t15 : tie.Need-array-read-t15
+array-read-t15 c = search needs
 
-cast-t31 : tie.Need-cast-t31
-cast-t31 c = let a = c .before .before in record { fits = below (a .args .t1) (a .pre) 11 }
+cast-t29 : tie.Need-cast-t29
+cast-t29 c = let a = c .before .before .before in record { fits = below (a .args .t1) (a .pre) 2 }
+
+array-read-t32 : tie.Need-array-read-t32
+array-read-t32 c = search needs
+
+cast-t33 : tie.Need-cast-t33
+cast-t33 c = let a = c .before .before .before in record { fits = below (a .args .t1) (a .pre) 10 }
+
+array-read-t36 : tie.Need-array-read-t36
+array-read-t36 c = search needs
+
+cast-t37 : tie.Need-cast-t37
+cast-t37 c = let a = c .before .before .before in record { fits = below (a .args .t1) (a .pre) 11 }
 
 returns : tie.Need-returns
-returns c = session-by (c .before .before .args .t1) _ _ (c .before .state-of .ensures) (c .positions-of .ensures)
+returns c =
+    let p = c .before in
+    let a = p .before in
+    session-by (a .before .args .t1) _ _ _ (a .state-of .ensures) (p .positions-of .ensures) (c .form-of .ensures)
 
 pub session-of-spec : {M : Type 1} → statement M
 session-of-spec =
@@ -61,14 +76,18 @@ session-of-spec =
     array-read-state-of-3
     state-of-requires
     positions-of-requires
-    array-read-t7
-    cast-t17
-    array-read-t10
-    cast-t20
-    array-read-t13
+    array-read-form-of
+    form-of-requires
+    array-read-bodies
+    cast-bodies
+    array-read-t9
     cast-t23
-    array-read-t26
-    cast-t27
-    array-read-t30
-    cast-t31
+    array-read-t12
+    cast-t26
+    array-read-t15
+    cast-t29
+    array-read-t32
+    cast-t33
+    array-read-t36
+    cast-t37
     returns)
