@@ -1,6 +1,7 @@
 -- What a step does for aj(b), by the tables alone: the code's answer in the rules' words.
 use Prim.Native.Nat.{ℕ, _-_}
 use mathlib.Core.List.{List, []}
+use Rattle.rules.specs.declared.Form.the-variants.{One}
 use Rattle.rules.specs.Map.{Layout, byDart}
 use Rattle.rules.specs.Walk.{Walk}
 use Rattle.rules.specs.Walk as walk
@@ -9,7 +10,7 @@ use Rattle.steps.specs.declared.Case.the-variants.{Known, Deduced, Asked
 
 -- a walk of which only the tables are asked
 abbrev pub looking : Layout → ℕ → ℕ → List ℕ → Walk
-looking Y N n t = record { layout = Y; dim = N; darts = n; queues = []; links = t; count = 0; positions = [] }
+looking Y N n t = record { layout = Y; dim = N; darts = n; queues = []; links = t; count = 0; positions = []; form = One; bodies = 0 }
 
 -- what is to be done for aj(b) where it is not known
 abbrev pub deducedFor : ℕ → ℕ → List ℕ → ℕ → ℕ → walk.Partner

@@ -10,14 +10,20 @@ use Rattle.rules.specs.Naming.{naming}
 use Rattle.rules.specs.Reading.{Run, Step, permitted, fault, allow}
 use Rattle.rules.specs.Session.{walkAt}
 use Rattle.rules.specs.Inner.{Emptied, Inv}
+use Rattle.rules.specs.declared.Form.{Form}
+use Rattle.rules.specs.declared.Form.the-variants.{One}
 use Rattle.rules.specs.declared.Naming.{Naming}
 use Rattle.rules.specs.declared.Stand.{Stand}
 use Rattle.steps.specs.declared.Stepped.{Stepped}
 use Rattle.steps.specs.declared.Stepped.the-variants.{On, Refused}
 
--- the stand of a count and positions
+-- the stand of a form and the bodies begun, a count and positions
+abbrev pub standIn : Form → ℕ → ℕ → List ℕ → Stand
+standIn F B k ps = record { count = k; positions = ps; form = F; bodies = B }
+
+-- the stand of a count and positions: a step looks at neither form nor bodies, so what it requires is said of one body
 abbrev pub stand : ℕ → List ℕ → Stand
-stand k ps = record { count = k; positions = ps }
+stand k ps = standIn One 1 k ps
 
 -- aj(b) = e and its reverse, in the tables
 abbrev pub tablesJoined : ℕ → ℕ → List ℕ → ℕ → ℕ → ℕ → List ℕ
@@ -53,17 +59,17 @@ deducedStep j b e w rest = allow (unknown w j e) 14 w (tie w j b e) rest
 abbrev pub symbolStep : ℕ → ℕ → Symbol → Walk → List Bool → Step
 symbolStep j b x w rest = allow (permitted w j b x) (fault w j b x) w (apply w j b x) rest
 
--- what a step came to with k darts numbered, as the rules tell it, by the positions and tables after it
-unfoldable pub toldStep : ℕ → ℕ → ℕ → Stepped → List ℕ → List ℕ → List Bool → Step
-toldStep N n k (On rank k') ps t rest = Step.goes (walkAt byDart N n (stand k' ps) t) rest
-toldStep N n k (Refused nr) ps t rest = Step.stops (Run.refused nr (walkAt byDart N n (stand k ps) t))
+-- what a step came to with k darts numbered, as the rules tell it in a form with B bodies, by the positions and tables after it
+unfoldable pub toldStep : Form → ℕ → ℕ → ℕ → ℕ → Stepped → List ℕ → List ℕ → List Bool → Step
+toldStep F B N n k (On rank k') ps t rest = Step.goes (walkAt byDart N n (standIn F B k' ps) t) rest
+toldStep F B N n k (Refused nr) ps t rest = Step.stops (Run.refused nr (walkAt byDart N n (standIn F B k ps) t))
 
--- the queues below the rank where a step goes on are empty
-unfoldable pub Lower : Stepped → List ℕ → Type 0
-Lower (On rank k) ps = Emptied k ps rank
-Lower (Refused nr) ps = Unit
+-- the queues below the rank where a step goes on are empty, and it is not past N
+unfoldable pub Lower : ℕ → Stepped → List ℕ → Type 0
+Lower N (On rank k) ps = Emptied k ps rank × (rank ≤ N)
+Lower N (Refused nr) ps = Unit
 
--- the rules' step f was made, whatever bits are left
+-- the rules' step f was made, in whatever form, with however many bodies, and whatever bits are left
 pub record Steps (N n k : ℕ) (ps t : List ℕ) (f : Walk → List Bool → Step) (r : Stepped) (ps' t' : List ℕ) : Type 0 where
-  pub tells : (rest : List Bool) → toldStep N n k r ps' t' rest ≡ f (walkAt byDart N n (stand k ps) t) rest
-  pub lower : Lower r ps'
+  pub tells : (F : Form) (B : ℕ) (rest : List Bool) → toldStep F B N n k r ps' t' rest ≡ f (walkAt byDart N n (standIn F B k ps) t) rest
+  pub lower : Lower N r ps'
