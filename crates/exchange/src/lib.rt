@@ -1,11 +1,13 @@
 // The surface for C: exported functions on plain numbers and slices over the library's calls. Each returns the refusal
 // number; the whole answer goes to the answer room. A session is kept as stored numbers in the caller's own record.
+use rules::Form;
 use rules::Session;
 use stored::PageRoom;
 use stored::ReadRoom;
 use stored::Record;
 ghost use mathlib.Core.Path.{_≡_};
 ghost use lib.ListN.{getD};
+ghost use Rattle.rules.specs.declared.Form.the-variants.{One, Several};
 ghost use Rattle.rules.specs.Map.{byDart};
 ghost use Rattle.rules.specs.Check.{checkAnswer, checkWork};
 ghost use Rattle.rules.specs.Writing.{writeAnswer, writeWork, writeOut};
@@ -17,6 +19,33 @@ ghost use Rattle.stored.specs.Answers.{checkNumbers, writeNumbers, readNumbers,
 ghost use Rattle.stored.specs.Layout.{storedSession};
 ghost use Rattle.exchange.specs.Rooms.{lent, pageLent, closeLent, facesNumbers};
 
+// The check of posted tables, in either form.
+pub fn check_in(
+    form: Form,
+    dim: u64,
+    darts: u64,
+    root: u64,
+    tables: &[u16],
+    work: &mut [u16],
+    answer: &mut [u32; 2],
+) -> u32
+    ensures { λ r. ⌜ (r ≡ checkAnswer form byDart dim darts root (now (tables .entry)) (now (work .entry)) .number)
+        × (now (answer .exit)
+        ≡ checkNumbers (checkAnswer form byDart dim darts root (now (tables .entry)) (now (work .entry))))
+        × (now (work .exit) ≡ checkWork form byDart dim darts root (now (tables .entry)) (now (work .entry))) ⌝ }
+{
+    let a = checker::check(
+        form,
+        dim as usize,
+        darts as usize,
+        root as usize,
+        tables,
+        work,
+    );
+    *answer = [a.number, a.place];
+    a.number
+}
+
 // The check of posted tables.
 #[no_mangle]
 pub extern "C" fn kz_check(
@@ -27,13 +56,66 @@ pub extern "C" fn kz_check(
     work: &mut [u16],
     answer: &mut [u32; 2],
 ) -> u32
-    ensures { λ r. ⌜ (r ≡ checkAnswer byDart dim darts root (now (tables .entry)) (now (work .entry)) .number)
+    ensures { λ r. ⌜ (r ≡ checkAnswer One byDart dim darts root (now (tables .entry)) (now (work .entry)) .number)
         × (now (answer .exit)
-        ≡ checkNumbers (checkAnswer byDart dim darts root (now (tables .entry)) (now (work .entry))))
-        × (now (work .exit) ≡ checkWork byDart dim darts root (now (tables .entry)) (now (work .entry))) ⌝ }
+        ≡ checkNumbers (checkAnswer One byDart dim darts root (now (tables .entry)) (now (work .entry))))
+        × (now (work .exit) ≡ checkWork One byDart dim darts root (now (tables .entry)) (now (work .entry))) ⌝ }
 {
-    let a = checker::check(dim as usize, darts as usize, root as usize, tables, work);
-    *answer = [a.number, a.place];
+    check_in(Form::One, dim, darts, root, tables, work, answer)
+}
+
+// The check of posted tables that have several bodies.
+#[no_mangle]
+pub extern "C" fn kz_check_bodies(
+    dim: u64,
+    darts: u64,
+    root: u64,
+    tables: &[u16],
+    work: &mut [u16],
+    answer: &mut [u32; 2],
+) -> u32
+    ensures { λ r. ⌜ (r ≡ checkAnswer Several byDart dim darts root (now (tables .entry)) (now (work .entry)) .number)
+        × (now (answer .exit)
+        ≡ checkNumbers (checkAnswer Several byDart dim darts root (now (tables .entry)) (now (work .entry))))
+        × (now (work .exit) ≡ checkWork Several byDart dim darts root (now (tables .entry)) (now (work .entry))) ⌝ }
+{
+    check_in(Form::Several, dim, darts, root, tables, work, answer)
+}
+
+// The paged writer, in either form.
+pub fn write_in(
+    form: Form,
+    dim: u64,
+    darts: u64,
+    root: u64,
+    start: u64,
+    tables: &[u16],
+    work: &mut [u16],
+    out: &mut [u8],
+    answer: &mut [u32; 4],
+) -> u32
+    ensures { λ r. ⌜ (r
+        ≡ writeAnswer form byDart dim darts root start (now (tables .entry)) (now (work .entry)) (now (out .entry))
+        .number)
+        × (now (answer .exit)
+        ≡ writeNumbers
+        (writeAnswer form byDart dim darts root start (now (tables .entry)) (now (work .entry)) (now (out .entry))))
+        × (now (work .exit) ≡ writeWork form byDart dim darts root (now (tables .entry)) (now (work .entry)))
+        × (now (out .exit)
+        ≡ writeOut form byDart dim darts root start (now (tables .entry)) (now (work .entry))
+        (now (out .entry))) ⌝ }
+{
+    let a = writer::write(
+        form,
+        dim as usize,
+        darts as usize,
+        root as usize,
+        start as usize,
+        tables,
+        work,
+        out,
+    );
+    *answer = [a.number, a.place, a.written, a.length];
     a.number
 }
 
@@ -50,25 +132,63 @@ pub extern "C" fn kz_write(
     answer: &mut [u32; 4],
 ) -> u32
     ensures { λ r. ⌜ (r
-        ≡ writeAnswer byDart dim darts root start (now (tables .entry)) (now (work .entry)) (now (out .entry)) .number)
+        ≡ writeAnswer One byDart dim darts root start (now (tables .entry)) (now (work .entry)) (now (out .entry))
+        .number)
         × (now (answer .exit)
         ≡ writeNumbers
-        (writeAnswer byDart dim darts root start (now (tables .entry)) (now (work .entry)) (now (out .entry))))
-        × (now (work .exit) ≡ writeWork byDart dim darts root (now (tables .entry)) (now (work .entry)))
+        (writeAnswer One byDart dim darts root start (now (tables .entry)) (now (work .entry)) (now (out .entry))))
+        × (now (work .exit) ≡ writeWork One byDart dim darts root (now (tables .entry)) (now (work .entry)))
         × (now (out .exit)
-        ≡ writeOut byDart dim darts root start (now (tables .entry)) (now (work .entry)) (now (out .entry))) ⌝ }
+        ≡ writeOut One byDart dim darts root start (now (tables .entry)) (now (work .entry))
+        (now (out .entry))) ⌝ }
 {
-    let a = writer::write(
-        dim as usize,
-        darts as usize,
-        root as usize,
-        start as usize,
+    write_in(
+        Form::One,
+        dim,
+        darts,
+        root,
+        start,
         tables,
         work,
         out,
-    );
-    *answer = [a.number, a.place, a.written, a.length];
-    a.number
+        answer,
+    )
+}
+
+// The paged writer of several bodies.
+#[no_mangle]
+pub extern "C" fn kz_write_bodies(
+    dim: u64,
+    darts: u64,
+    root: u64,
+    start: u64,
+    tables: &[u16],
+    work: &mut [u16],
+    out: &mut [u8],
+    answer: &mut [u32; 4],
+) -> u32
+    ensures { λ r. ⌜ (r
+        ≡ writeAnswer Several byDart dim darts root start (now (tables .entry)) (now (work .entry)) (now (out .entry))
+        .number)
+        × (now (answer .exit)
+        ≡ writeNumbers
+        (writeAnswer Several byDart dim darts root start (now (tables .entry)) (now (work .entry)) (now (out .entry))))
+        × (now (work .exit) ≡ writeWork Several byDart dim darts root (now (tables .entry)) (now (work .entry)))
+        × (now (out .exit)
+        ≡ writeOut Several byDart dim darts root start (now (tables .entry)) (now (work .entry))
+        (now (out .entry))) ⌝ }
+{
+    write_in(
+        Form::Several,
+        dim,
+        darts,
+        root,
+        start,
+        tables,
+        work,
+        out,
+        answer,
+    )
 }
 
 // One whole read.
@@ -137,6 +257,25 @@ pub extern "C" fn kz_close(kept: &mut Record, tables: &mut [u16], answer: &mut R
     a.number
 }
 
+// The cell report, in either form.
+pub fn report_in(
+    form: Form,
+    dim: u64,
+    darts: u64,
+    tables: &[u16],
+    work: &mut [u16],
+    answer: &mut [u32; 11],
+) -> u32
+    ensures { λ r. ⌜ (r ≡ reportAnswer form byDart dim darts (now (tables .entry)) (now (work .entry)) .number)
+        × (now (answer .exit)
+        ≡ reportNumbers (reportAnswer form byDart dim darts (now (tables .entry)) (now (work .entry))))
+        × (now (work .exit) ≡ reportWork form byDart dim darts (now (tables .entry)) (now (work .entry))) ⌝ }
+{
+    let a = report::report(form, dim as usize, darts as usize, tables, work);
+    *answer = stored::report_numbers(a);
+    a.number
+}
+
 // The cell report.
 #[no_mangle]
 pub extern "C" fn kz_report(
@@ -146,13 +285,29 @@ pub extern "C" fn kz_report(
     work: &mut [u16],
     answer: &mut [u32; 11],
 ) -> u32
-    ensures { λ r. ⌜ (r ≡ reportAnswer byDart dim darts (now (tables .entry)) (now (work .entry)) .number)
-        × (now (answer .exit) ≡ reportNumbers (reportAnswer byDart dim darts (now (tables .entry)) (now (work .entry))))
-        × (now (work .exit) ≡ reportWork byDart dim darts (now (tables .entry)) (now (work .entry))) ⌝ }
+    ensures { λ r. ⌜ (r ≡ reportAnswer One byDart dim darts (now (tables .entry)) (now (work .entry)) .number)
+        × (now (answer .exit)
+        ≡ reportNumbers (reportAnswer One byDart dim darts (now (tables .entry)) (now (work .entry))))
+        × (now (work .exit) ≡ reportWork One byDart dim darts (now (tables .entry)) (now (work .entry))) ⌝ }
 {
-    let a = report::report(dim as usize, darts as usize, tables, work);
-    *answer = stored::report_numbers(a);
-    a.number
+    report_in(Form::One, dim, darts, tables, work, answer)
+}
+
+// The cell report of several bodies.
+#[no_mangle]
+pub extern "C" fn kz_report_bodies(
+    dim: u64,
+    darts: u64,
+    tables: &[u16],
+    work: &mut [u16],
+    answer: &mut [u32; 11],
+) -> u32
+    ensures { λ r. ⌜ (r ≡ reportAnswer Several byDart dim darts (now (tables .entry)) (now (work .entry)) .number)
+        × (now (answer .exit)
+        ≡ reportNumbers (reportAnswer Several byDart dim darts (now (tables .entry)) (now (work .entry))))
+        × (now (work .exit) ≡ reportWork Several byDart dim darts (now (tables .entry)) (now (work .entry))) ⌝ }
+{
+    report_in(Form::Several, dim, darts, tables, work, answer)
 }
 
 // A face file (OFF text) as a map of dimension 2. The answer's numbers have 64 bits, since a text may be longer than

@@ -2,6 +2,7 @@
 // refusal. Nothing is printed before the close answer is known.
 use libc::STDIN_FILENO;
 use libc::STDOUT_FILENO;
+use rules::Form;
 use rules::ReadAnswer;
 use rules::Session;
 ghost use mathlib.Core.Path.{_≡_};
@@ -69,11 +70,11 @@ fn text_room() -> [u8; 688407]
     [0; 688407]
 }
 
-// The listing, as one text.
-fn print(a: ReadAnswer, tables: &[u16]) {
+// The listing, as one text; the report is that of the stream's form.
+fn print(form: Form, a: ReadAnswer, tables: &[u16]) {
     let mut work = work_room();
     let mut out = text_room();
-    let r = report::report(a.dim as usize, a.darts as usize, tables, &mut work);
+    let r = report::report(form, a.dim as usize, a.darts as usize, tables, &mut work);
     let n = listing::put(&mut out, a, r, tables);
     io::write_all(STDOUT_FILENO, &out[..n]);
 }
@@ -82,6 +83,8 @@ fn main() {
     let mut tables = tables_room();
     let session = feed_all(Session::open(), &mut tables);
     let p = reader::close(session, &mut tables);
+    let closed = p.session;
+    let form = closed.form;
     let answer = p.answer;
-    print(answer, &tables);
+    print(form, answer, &tables);
 }

@@ -19,22 +19,24 @@ use Rattle.rules.specs.declared.Stand.{Stand}
 use Rattle.records.specs.declared.Paged.{Paged}
 use Rattle.records.specs.declared.Fetching.{Fetching}
 use Rattle.rules.specs.declared.State.the-variants.{Header, Running, Complete, Closed, Refused}
+use Rattle.rules.specs.declared.Form.{Form}
+use Rattle.rules.specs.Bodies.{formOf, dimOf}
 use Rattle.rules.specs.Map.{byDart, dimFits, size, blank, Limits}
 use Rattle.rules.specs.Walk.{Walk, start, steps}
 use Rattle.rules.specs.Stream.{bitsOf, value, unpack}
-use Rattle.rules.specs.Reading.{runAll, Reading, spoiled, settle, begun, headerDim, headerDarts, readHeader, readingOf, closing, goodAnswer, plainAnswer}
+use Rattle.rules.specs.Reading.{runAll, Reading, spoiled, settle, begun, headerForm, headerDim, headerDarts, readHeader, readingOf, closing, goodAnswer, plainAnswer}
 use Rattle.rules.specs.Reading.{answerOf, tablesOf, readAnswer, readTables}
 use Rattle.rules.specs.Session.{idle, held, store, opened, walkAt, standOf, walkOf, waitingOf, fit, Left, unchanged, leaves, goOn, afterEnd, pageAs}
 use Rattle.rules.specs.Session.{closeAs, ifFit, page, close, recordFor, tablesFor}
 use Rattle.rules.specs.Fetch.{wholeBytes, fetchAs, fetchOf, fetching, pageCall}
 use Rattle.rules.specs.Inner.{Shape}
 use Rattle.rules.proofs.Codes.{value-append, length-bits, value-lt, value-bits}
-use Rattle.rules.proofs.Readings.{begins-13, fits-dim}
+use Rattle.rules.proofs.Readings.{begins-13, asks-rests, fits-dim}
 use Rattle.rules.proofs.Fitness.{walk-held, waiting-held, Fits, FitSession, fit-session, fit-shape}
 use Rattle.rules.proofs.Sessions.{record-fit, close-reads}
 use Rattle.rules.proofs.Fetch.{fetch-none, wants}
 use Rattle.symbols.specs.Cursors.{atHand}
-use Rattle.steps.specs.Steps.{stand}
+use Rattle.steps.specs.Steps.{standIn}
 use Rattle.steps.proofs.Steps.{walk-start}
 use Rattle.runs.specs.Turns.{Ready}
 use Rattle.runs.proofs.Turns.{ready-start}
@@ -70,12 +72,19 @@ module _ (x y : ℕ) (hx : x < 256) (hy : y < 256) (rest : List Bool) where
   low-small : value low < 16
   low-small = rw low-length at (value-lt low)
 
-  dim-is : headerDim bits ≡ x / 16
-  unfolding headerDim
-  dim-is =
+  first-is : value (take 4 bits) ≡ x / 16
+  first-is =
       let e : take 4 (bitsOf 8 x ++ (bitsOf 8 y ++ rest)) ≡ high =
       unfold high in take-append-le 4 (bitsOf 8 x) (bitsOf 8 y ++ rest) (omega (arith, length-bits 8 x)) in
       rw e (omega (arith, halves, low-small))
+
+  form-is : headerForm bits ≡ formOf (x / 16)
+  unfolding headerForm
+  form-is = ap formOf first-is
+
+  dim-is : headerDim bits ≡ dimOf (x / 16)
+  unfolding headerDim
+  dim-is = ap dimOf first-is
 
   darts-are : headerDarts bits ≡ x % 16 * 256 + y + 1
   unfolding headerDarts
@@ -94,11 +103,11 @@ module _ (x y : ℕ) (hx : x < 256) (hy : y < 256) (rest : List Bool) where
 
   -- reading from two whole bytes on
   pub reading-begun : (t : List ℕ)
-      → readingOf byDart bits t ≡ begun byDart (dimFits (x / 16)) (leb (size (x / 16) (x % 16 * 256 + y + 1)) (length t)) (x / 16) (x % 16 * 256 + y + 1) rest t
-  unfolding readingOf readHeader
+      → readingOf byDart bits t ≡ headed x y rest t
+  unfolding readingOf readHeader headed
   reading-begun t =
       let l : leb 16 (length bits) ≡ true = le-leb 16 (length bits) (simp length-append (omega (arith, length-bits 8 x, length-bits 8 y))) in
-      rw (l, dim-is, darts-are, rest-is)
+      rw (l, form-is, dim-is, darts-are, rest-is)
 
 -- refused before a walk: the tables stay
 pub refused-left : (r : Paged) (nr p : ℕ) (t : List ℕ) → r .session ≡ idleBy (Refused nr p) 0 0 → r .answer ≡ plainAnswer nr p
@@ -113,26 +122,26 @@ unfolding leftBy leaves readingOf readHeader
 header-left r bits t e f h = rw (lt-leb 16 (length bits) h) (unfold store idle answerOf tablesOf in λ i. record { session = e i; answer = f i; tables = t })
 
 -- a header that is in: 1, 3, or the walk
-module _ (r : Paged) (N n : ℕ) (bits : List Bool) (t : List ℕ) where
+module _ (r : Paged) (F : Form) (N n : ℕ) (bits : List Bool) (t : List ℕ) where
   pub begin-dim : r .session ≡ idleBy (Refused 1 0) 0 0 → r .answer ≡ plainAnswer 1 0 → dimFits N ≡ false
-      → leftBy r t ≡ leaves (begun byDart (dimFits N) (leb (size N n) (length t)) N n bits t) t
+      → leftBy r t ≡ leaves (begun F byDart (dimFits N) (leb (size N n) (length t)) N n bits t) t
   unfolding begun
   begin-dim e f h = rw h (refused-left r 1 0 t e f)
 
   pub begin-room : r .session ≡ idleBy (Refused 3 0) 0 0 → r .answer ≡ plainAnswer 3 0 → dimFits N ≡ true → length t < size N n
-      → leftBy r t ≡ leaves (begun byDart (dimFits N) (leb (size N n) (length t)) N n bits t) t
+      → leftBy r t ≡ leaves (begun F byDart (dimFits N) (leb (size N n) (length t)) N n bits t) t
   unfolding begun
   begin-room e f h l = rw (h, lt-leb (size N n) (length t) l) (refused-left r 3 0 t e f)
 
-  pub begin-walk : (u : List ℕ) (c : Cursor) (page : List ℕ) (b : List ℕ) → b ≡ blank (size N n) t
-      → leftBy r u ≡ leaves (settle (runAll (walkAt byDart N n (stand 1 (replicate 7 0)) b) (atHand c page))) b
+  pub begin-walk : (u : List ℕ) (c : Cursor) (page : List ℕ) (b : List ℕ) → b ≡ blank (size N n) t → (G : Form) → G ≡ F
+      → leftBy r u ≡ leaves (settle (runAll (walkAt byDart N n (standIn G 1 1 (replicate 7 0)) b) (atHand c page))) b
       → atHand c page ≡ bits → (1 ≤ N) × (N ≤ 6) → (1 ≤ n) × (n ≤ 4096) → size N n ≤ length t
-      → leftBy r u ≡ leaves (begun byDart (dimFits N) (leb (size N n) (length t)) N n bits t) t
+      → leftBy r u ≡ leaves (begun F byDart (dimFits N) (leb (size N n) (length t)) N n bits t) t
   unfolding begun
-  begin-walk u c page b eb e ea hN hn l =
-      let w : walkAt byDart N n (stand 1 (replicate 7 0)) b ≡ start byDart N n t = rw eb (walk-start N n t (hn .0) (hn .1) (hN .1)) in
+  begin-walk u c page b eb G eg e ea hN hn l =
+      let w : walkAt byDart N n (standIn G 1 1 (replicate 7 0)) b ≡ start F byDart N n t = rw (eb, eg) (walk-start F N n t (hn .0) (hn .1) (hN .1)) in
       rw (fits-dim N (hN .0) (hN .1), le-leb (size N n) (length t) l)
-      (e ∙ (rw (w, ea) (settle-same (runAll (start byDart N n t) bits) b t)))
+      (e ∙ (rw (w, ea) (settle-same (runAll (start F byDart N n t) bits) b t)))
 
 -- a fresh cursor at a byte has the bits from there on
 pub fresh-hand : (at : ℕ) (page : List ℕ) → atHand (record { waiting = 0; value = 0; at = at; bit = 0 }) page ≡ unpack (drop at page)
@@ -208,11 +217,11 @@ size-is N n = ap (λ (x : ℕ). x * n) (omega arith)
 pub begin-blank : (N n : ℕ) (t b : List ℕ) → b ≡ blank ((N + 1) * n) t → b ≡ blank (size N n) t
 begin-blank N n t b e = e ∙ ap (λ (k : ℕ). blank k t) (size-is N n)
 
-pub begin-ready : (N n at : ℕ) (t page : List ℕ) → (1 ≤ N) × (N ≤ 6) → (1 ≤ n) × (n ≤ 4096) → (b : List ℕ) → b ≡ blank ((N + 1) * n) t → at ≤ length page
-    → Ready N n (stand 1 (replicate 7 0)) (record { waiting = 0; value = 0; at = at; bit = 0 }) b page
-begin-ready N n at t page hN hn b e h =
+pub begin-ready : (F : Form) (N n at : ℕ) (t page : List ℕ) → (1 ≤ N) × (N ≤ 6) → (1 ≤ n) × (n ≤ 4096) → (b : List ℕ) → b ≡ blank ((N + 1) * n) t → at ≤ length page
+    → Ready N n (standIn F 1 1 (replicate 7 0)) (record { waiting = 0; value = 0; at = at; bit = 0 }) b page
+begin-ready F N n at t page hN hn b e h =
     rw (begin-blank N n t b e)
-    (ready-start N n (record { waiting = 0; value = 0; at = at; bit = 0 }) t page hN hn
+    (ready-start F N n (record { waiting = 0; value = 0; at = at; bit = 0 }) t page hN hn
     (record { few = omega arith; holds = omega arith; within = h; inByte = omega arith }) refl)
 
 -- states are told apart
@@ -268,6 +277,7 @@ module _ (s : Session) (t : List ℕ) (seven : length (s .positions) ≡ 7) (e :
               let ev : s .value ≡ value bs = unfold held in ap (λ (x : Session). x .value) es in
               record {
                 inv = rw p v;
+                rests = rw p (asks-rests w bs a);
                 dims = omega (arith, d .1, ed);
                 fits =
                     record { few = omega (arith, ew, begins-13 bs (a .begun)); holds = rw (ew, ev) (value-lt bs); within = omega arith; inByte = omega arith };
@@ -312,7 +322,13 @@ pub running-may : (s : Session) (k : Stand) → k ≡ standOf s → (t page : Li
     → (at : ℕ) → at ≤ length page → Ready (s .dim) (s .darts) k (record { waiting = s .waiting; value = s .value; at = at; bit = 0 }) t page
 running-may s k ek t page y at h =
     let f = y .fits in
-    rw ek (record { inv = y .inv; dims = y .dims; fits = record { few = f .few; holds = f .holds; within = h; inByte = f .inByte }; begun = y .begun })
+    rw ek (record {
+      inv = y .inv;
+      rests = y .rests;
+      dims = y .dims;
+      fits = record { few = f .few; holds = f .holds; within = h; inByte = f .inByte };
+      begun = y .begun;
+    })
 
 -- calls on the walk of a record
 module _ (r : Paged) (s : Session) (k : Stand) (ek : k ≡ standOf s) (t : List ℕ) where

@@ -6,12 +6,16 @@ use lib.ListN.{length}
 use lib.Dec.{leb}
 use Rattle.rules.specs.declared.Session.{Session}
 use Rattle.symbols.specs.declared.Cursor.{Cursor}
+use Rattle.rules.specs.Bodies.{formOf, dimOf}
 use Rattle.rules.specs.Map.{byDart, dimFits, size}
 use Rattle.rules.specs.Reading.{Reading, begun}
 
--- a reading from both header bytes on: 4 bits N, 12 bits n-1
+-- a reading from both header bytes on: 4 bits form and N, 12 bits n-1
 unfoldable pub headed : ℕ → ℕ → List Bool → List ℕ → Reading
-headed x y bits t = begun byDart (dimFits (x / 16)) (leb (size (x / 16) (x % 16 * 256 + y + 1)) (length t)) (x / 16) (x % 16 * 256 + y + 1) bits t
+headed x y bits t =
+    let N = dimOf (x / 16) in
+    let n = x % 16 * 256 + y + 1 in
+    begun (formOf (x / 16)) byDart (dimFits N) (leb (size N n) (length t)) N n bits t
 
 -- the bits that wait in a record, then a page from its first byte
 abbrev pub cursorOf : Session → Cursor

@@ -1,6 +1,7 @@
 // The session's calls, by value: the page, closing, and the whole read, with the refusals of a reading.
 use records::Fetching;
 use records::Paged;
+use rules::Form;
 use rules::ReadAnswer;
 use rules::Session;
 use rules::Stand;
@@ -12,6 +13,7 @@ ghost use mathlib.Core.Logic.{_⊎_};
 ghost use mathlib.Core.List.{_++_};
 ghost use Prim.Native.Nat.{_-_, _≤_, _<_};
 ghost use lib.ListN.{length, drop};
+ghost use Rattle.rules.specs.Bodies.{formOf};
 ghost use Rattle.rules.specs.Map.{byDart, Limits};
 ghost use Rattle.rules.specs.Stream.{unpack};
 ghost use Rattle.rules.specs.Reading.{plainAnswer, readAnswer, readTables, readingOf};
@@ -22,13 +24,24 @@ ghost use Rattle.records.specs.Lefts.{leftBy, idleBy};
 ghost use Rattle.records.specs.Fetches.{readBy, fetchedBy, Fetches};
 ghost use Rattle.reader.specs.Calls.{headed, cursorOf};
 
+// The form that the first four bits say.
+pub fn form_of(bits: u8) -> Form
+    ensures { λ r. ⌜ r ≡ formOf bits ⌝ }
+{
+    if bits < 8 {
+        return Form::One;
+    }
+    Form::Several
+}
+
 // Both header bytes are in; the page goes on at a byte of it.
 pub fn begin(first: u8, second: u8, at: usize, page: &[u8], tables: &mut [u16]) -> Fetching
     requires { ⌜ at ≤ length (now page) ⌝ }
     ensures { λ r. let t = now (tables .entry) in ⌜ Fetches r (now (tables .exit))
         (leaves (headed first second (unpack (drop at (now (page .entry)))) t) t) ⌝ }
 {
-    let dim = (first / 16) as usize;
+    let form = form_of(first / 16);
+    let dim = (first / 16 % 8) as usize;
     let darts = (first % 16) as usize * 256 + second as usize + 1;
     if dim < 1 {
         return records::asking(records::refused(1, 0), 0);
@@ -44,6 +57,8 @@ pub fn begin(first: u8, second: u8, at: usize, page: &[u8], tables: &mut [u16]) 
     let stand = Stand {
         count: 1,
         positions: [0u16; 7],
+        form,
+        bodies: 1,
     };
     let c = Cursor {
         waiting: 0,

@@ -25,7 +25,7 @@ test-wants false nr w r e = refl
 
 finish-wants : (w : Walk) (bs : List Bool) → wants (finish w bs) ≡ 0
 unfolding finish wants
-finish-wants w bs = test-wants _ 15 w _ (test-wants _ 16 w _ (test-wants _ 17 w _ (test-wants _ 18 w _ refl)))
+finish-wants w bs = test-wants _ _ w _ (test-wants _ 16 w _ (test-wants _ 17 w _ (test-wants _ 18 w _ refl)))
 
 -- a run that waits wants the bytes of the bits that its symbol has to come
 pub signal-wants : (x : Signal) (w : Walk) (bs : List Bool) → ((k : ℕ) → x ≡ Waits k → takeSymbol bs ≡ Taken.short k)

@@ -7,19 +7,22 @@ use mathlib.Core.List.{List}
 use native.Mathlib.Omega.{arith}
 use lib.ListN.{length, take}
 use lib.Dec.{eqb}
-use borrow.Author.Tests.{eq-eqb, ne-eqb}
+use borrow.Author.Tests.{eqb-true, eq-eqb, ne-eqb, not-true, not-false}
+use Rattle.rules.specs.declared.Form.{Form}
+use Rattle.rules.specs.declared.Form.the-variants.{One, Several}
 use Rattle.rules.specs.declared.Session.{Session}
 use Rattle.rules.specs.declared.ReadAnswer.{ReadAnswer}
 use Rattle.rules.specs.declared.State.the-variants as state
 use Rattle.rules.specs.Lists.{sum}
 use Rattle.rules.specs.Map.{byDart, Limits, blank, pairsOf, firstBroken}
+use Rattle.rules.specs.Bodies.{several, endNumber}
 use Rattle.rules.specs.Walk.{Walk, linkOf, steps}
 use Rattle.rules.specs.Inner.{gone}
 use Rattle.rules.proofs.Positions.{over}
 use Rattle.rules.proofs.Runs.{ran-ended}
 use Rattle.tables.specs.Darts.{Inside}
 use Rattle.rules.specs.Stream.{value}
-use Rattle.rules.specs.Reading.{Run, runAll, Reading, spoiled, test, manifold, finish, settle, goodAnswer, plainAnswer, answerOf, tablesOf}
+use Rattle.rules.specs.Reading.{Run, runAll, Reading, spoiled, test, bodiesFound, manifold, finish, settle, goodAnswer, plainAnswer, answerOf, tablesOf}
 use Rattle.rules.specs.Session.{Left, idle, held, store, leaves, walkAt}
 use Rattle.symbols.specs.declared.Cursor.{Cursor}
 use Rattle.symbols.specs.Cursors.{atHand}
@@ -29,7 +32,7 @@ use Rattle.runs.specs.declared.Signal.{Signal}
 use Rattle.runs.specs.declared.Signal.the-variants.{Ended, Waits, Refused}
 use Rattle.runs.specs.Runs.{signalRun, toldRun, Runs}
 use Rattle.records.specs.declared.Paged.{Paged}
-use Rattle.records.specs.Lefts.{leftBy, idleBy, heldBy, goodBy, Settles}
+use Rattle.records.specs.Lefts.{leftBy, idleBy, heldBy, goodBy, foundBy, Settles}
 
 left-of : (r : Paged) (t' : List ℕ) (s : Session) (a : ReadAnswer) (t : List ℕ) → r .session ≡ s → r .answer ≡ a → t' ≡ t
     → leftBy r t' ≡ record { session = s; answer = a; tables = t }
@@ -66,46 +69,55 @@ module _ (N n : ℕ) (s : Stand) (t : List ℕ) (r : Paged) (answers : r .answer
       left-of r t (heldBy state.Running N n s (length bs) (value bs)) (goodBy N n s) t
       (e ∙ (ap (λ (x : ℕ). heldBy state.Running N n s x v) ek ∙ ap (λ (x : ℕ). heldBy state.Running N n s (length bs) x) ev)) answers refl
 
+-- at an end with the bodies of its form every dart is numbered: one body is tested for it, and of several it is known before
+pub found-whole : (F : Form) (B k n : ℕ) → foundBy F B k n ≡ true → (several F ≡ true → k ≡ n) → k ≡ n
+unfolding bodiesFound walkAt several
+found-whole One B k n e w = eqb-true k n e
+found-whole Several B k n e w = w refl
+
 -- the walk's end, test by test
-module _ (N n : ℕ) (s : Stand) (t : List ℕ) (bs : List Bool) (r : Paged) (t' : List ℕ) where
-  way-15 : s .count ≢ n → finish (walkAt byDart N n s t) bs ≡ spoiled 15 (walkAt byDart N n s t)
-  unfolding finish test walkAt
-  way-15 h = rw (ne-eqb (s .count) n h)
+module _ (N n : ℕ) (s : Stand) (t : List ℕ) (bs : List Bool) (r : Paged) (t' : List ℕ) (f : Bool) (ef : f ≡ foundBy (s .form) (s .bodies) (s .count) n) where
+  way-bodies : not f ≡ true → finish (walkAt byDart N n s t) bs ≡ spoiled (endNumber (s .form)) (walkAt byDart N n s t)
+  unfolding finish test bodiesFound walkAt
+  way-bodies h = rw (sym ef ∙ not-true f h)
 
-  pub end-15 : s .count ≢ n → leftBy r t' ≡ leaves (spoiled 15 (walkAt byDart N n s t)) t → leftBy r t' ≡ leaves (finish (walkAt byDart N n s t) bs) t
-  end-15 h e = e ∙ ap (λ (x : Reading). leaves x t) (sym (way-15 h))
+  pub end-bodies : not f ≡ true → (nr : ℕ) → nr ≡ endNumber (s .form) → leftBy r t' ≡ leaves (spoiled nr (walkAt byDart N n s t)) t
+      → leftBy r t' ≡ leaves (finish (walkAt byDart N n s t) bs) t
+  end-bodies h nr q e =
+      let w = walkAt byDart N n s t in
+      e ∙ (ap (λ (y : ℕ). leaves (spoiled y w) t) q ∙ ap (λ (y : Reading). leaves y t) (sym (way-bodies h)))
 
-  module _ (all : s .count ≡ n) (b : ℕ) (eb : b ≡ firstBroken byDart N n t (pairsOf N)) where
+  module _ (found : not f ≡ false) (b : ℕ) (eb : b ≡ firstBroken byDart N n t (pairsOf N)) where
     way-16 : b ≢ n → finish (walkAt byDart N n s t) bs ≡ spoiled 16 (walkAt byDart N n s t)
-    unfolding finish test walkAt manifold
-    way-16 h = rw (eq-eqb (s .count) n all, ← eb, ne-eqb b n h)
+    unfolding finish test bodiesFound walkAt manifold
+    way-16 h = rw (sym ef ∙ not-false f found, ← eb, ne-eqb b n h)
 
     pub end-16 : b ≢ n → leftBy r t' ≡ leaves (spoiled 16 (walkAt byDart N n s t)) t → leftBy r t' ≡ leaves (finish (walkAt byDart N n s t) bs) t
-    end-16 h e = e ∙ ap (λ (x : Reading). leaves x t) (sym (way-16 h))
+    end-16 h e = e ∙ ap (λ (y : Reading). leaves y t) (sym (way-16 h))
 
-    module _ (whole : b ≡ n) (f : Bool) (ef : not f ≡ eqb (value (take (length bs % 8) bs)) 0) where
-      way-17 : f ≡ true → finish (walkAt byDart N n s t) bs ≡ spoiled 17 (walkAt byDart N n s t)
-      unfolding finish test walkAt manifold
-      way-17 h = rw (eq-eqb (s .count) n all, ← eb, eq-eqb b n whole, ← ef, h)
+    module _ (whole : b ≡ n) (x : Bool) (ex : not x ≡ eqb (value (take (length bs % 8) bs)) 0) where
+      way-17 : x ≡ true → finish (walkAt byDart N n s t) bs ≡ spoiled 17 (walkAt byDart N n s t)
+      unfolding finish test bodiesFound walkAt manifold
+      way-17 h = rw (sym ef ∙ not-false f found, ← eb, eq-eqb b n whole, ← ex, h)
 
-      pub end-17 : f ≡ true → leftBy r t' ≡ leaves (spoiled 17 (walkAt byDart N n s t)) t → leftBy r t' ≡ leaves (finish (walkAt byDart N n s t) bs) t
-      end-17 h e = e ∙ ap (λ (x : Reading). leaves x t) (sym (way-17 h))
+      pub end-17 : x ≡ true → leftBy r t' ≡ leaves (spoiled 17 (walkAt byDart N n s t)) t → leftBy r t' ≡ leaves (finish (walkAt byDart N n s t) bs) t
+      end-17 h e = e ∙ ap (λ (y : Reading). leaves y t) (sym (way-17 h))
 
-      module _ (zero : f ≡ false) (g : Bool) (eg : not g ≡ eqb (length bs / 8) 0) where
+      module _ (zero : x ≡ false) (g : Bool) (eg : not g ≡ eqb (length bs / 8) 0) where
         way-18 : g ≡ true → finish (walkAt byDart N n s t) bs ≡ spoiled 18 (walkAt byDart N n s t)
-        unfolding finish test walkAt manifold
-        way-18 h = rw (eq-eqb (s .count) n all, ← eb, eq-eqb b n whole, ← ef, zero, ← eg, h)
+        unfolding finish test bodiesFound walkAt manifold
+        way-18 h = rw (sym ef ∙ not-false f found, ← eb, eq-eqb b n whole, ← ex, zero, ← eg, h)
 
         pub end-18 : g ≡ true → leftBy r t' ≡ leaves (spoiled 18 (walkAt byDart N n s t)) t → leftBy r t' ≡ leaves (finish (walkAt byDart N n s t) bs) t
-        end-18 h e = e ∙ ap (λ (x : Reading). leaves x t) (sym (way-18 h))
+        end-18 h e = e ∙ ap (λ (y : Reading). leaves y t) (sym (way-18 h))
 
         way-complete : g ≡ false → finish (walkAt byDart N n s t) bs ≡ Reading.complete (walkAt byDart N n s t)
-        unfolding finish test walkAt manifold
-        way-complete h = rw (eq-eqb (s .count) n all, ← eb, eq-eqb b n whole, ← ef, zero, ← eg, h)
+        unfolding finish test bodiesFound walkAt manifold
+        way-complete h = rw (sym ef ∙ not-false f found, ← eb, eq-eqb b n whole, ← ex, zero, ← eg, h)
 
         pub end-complete : g ≡ false → leftBy r t' ≡ leaves (Reading.complete (walkAt byDart N n s t)) t
             → leftBy r t' ≡ leaves (finish (walkAt byDart N n s t) bs) t
-        end-complete h e = e ∙ ap (λ (x : Reading). leaves x t) (sym (way-complete h))
+        end-complete h e = e ∙ ap (λ (y : Reading). leaves y t) (sym (way-complete h))
 
 -- where a run leaves off, by its signal
 module _ (w : Walk) (bs : List Bool) (t : List ℕ) (l : Left) (x : Signal) where
@@ -130,7 +142,7 @@ test-same false nr w x t u e = refl
 pub settle-same : (x : Run) (t u : List ℕ) → leaves (settle x) t ≡ leaves (settle x) u
 unfolding settle finish leaves tablesOf spoiled
 settle-same (Run.ended w bs) t u =
-    test-same (eqb (w .count) (w .darts)) 15 w
+    test-same (bodiesFound w) (endNumber (w .form)) w
     (test (manifold w) 16 w (test (eqb (value (take (length bs % 8) bs)) 0) 17 w (test (eqb (length bs / 8) 0) 18 w (Reading.complete w)))) t u
     (test-same (manifold w) 16 w (test (eqb (value (take (length bs % 8) bs)) 0) 17 w (test (eqb (length bs / 8) 0) 18 w (Reading.complete w))) t u
     (test-same (eqb (value (take (length bs % 8) bs)) 0) 17 w (test (eqb (length bs / 8) 0) 18 w (Reading.complete w)) t u
@@ -161,7 +173,7 @@ module _ (N n : ℕ) (s : Stand) (c : Cursor) (t page : List ℕ) (dims : 1 ≤ 
   pub run-settles : Settles N n r t' page
   run-settles = record {
     limits = run-limits;
-    ends = λ e. record { limits = run-limits; fits = h .fits; clean = h .clean e; inside = run-inside e };
+    ends = λ e. record { limits = run-limits; fits = h .fits; clean = h .clean e; inside = run-inside e; whole = h .whole e };
     fits = h .fits;
     short = h .short;
   }

@@ -1,5 +1,6 @@
 // The record and the answer that a reading leaves: refused, spoiled, held; the end of a walk, and where a run leaves
 // the session.
+use rules::Form;
 use rules::PageAnswer;
 use rules::ReadAnswer;
 use rules::Session;
@@ -15,6 +16,7 @@ ghost use lib.ListN.{length, take};
 ghost use lib.Dec.{eqb};
 ghost use Rattle.rules.specs.Lists.{sum};
 ghost use Rattle.rules.specs.Map.{byDart, Limits};
+ghost use Rattle.rules.specs.Bodies.{endNumber};
 ghost use Rattle.rules.specs.Stream.{value};
 ghost use Rattle.rules.specs.Reading as reading;
 ghost use Rattle.rules.specs.Reading.{plainAnswer, runAll};
@@ -23,7 +25,7 @@ ghost use Rattle.rules.specs.Fetch.{wholeBytes};
 ghost use Rattle.symbols.specs.Cursors.{CursorFits, atHand};
 ghost use Rattle.runs.specs.Turns.{Ready};
 ghost use Rattle.runs.specs.Runs.{toldRun};
-ghost use Rattle.records.specs.Lefts.{leftBy, idleBy, heldBy, goodBy, Ends, Settles};
+ghost use Rattle.records.specs.Lefts.{leftBy, idleBy, heldBy, goodBy, foundBy, Ends, Settles};
 ghost use Rattle.records.specs.Fetches.{readBy, signalFetch, Fetches};
 
 // A session and the answer of a reading.
@@ -79,7 +81,7 @@ pub fn unchanged(s: Session, number: u32, place: u32) -> Paged
     Paged { session: s, answer }
 }
 
-// A state with waiting bits, every other number 0.
+// A state with waiting bits, every other number 0, the form one-body.
 pub fn idle(state: State, waiting: u16, value: u16) -> Session
     ensures { λ r. ⌜ r ≡ idleBy state waiting value ⌝ }
 {
@@ -91,6 +93,8 @@ pub fn idle(state: State, waiting: u16, value: u16) -> Session
         positions: [0u16; 7],
         waiting,
         value,
+        form: Form::One,
+        bodies: 0,
     }
 }
 
@@ -136,6 +140,8 @@ pub fn held(state: State, dim: usize, darts: usize, stand: Stand, waiting: u16, 
 {
     let positions = stand.positions;
     let count = stand.count;
+    let form = stand.form;
+    let bodies = stand.bodies;
     let steps = steps_of(positions);
     let session = Session {
         state,
@@ -145,6 +151,8 @@ pub fn held(state: State, dim: usize, darts: usize, stand: Stand, waiting: u16, 
         positions,
         waiting,
         value,
+        form,
+        bodies,
     };
     let answer = ReadAnswer {
         number: 0,
@@ -189,7 +197,27 @@ pub fn byte_after(c: Cursor, page: &[u8]) -> bool
     at + 1 < page.len()
 }
 
-// The walk's end: 15, 16, 17, 18, then complete.
+// Has a walk that ended found the bodies of its form? One body has every dart; of several, two were begun.
+pub fn bodies_found(form: Form, bodies: u16, count: u16, darts: usize) -> bool
+    ensures { λ r. ⌜ r ≡ foundBy form bodies count darts ⌝ }
+{
+    match form {
+        Form::One => count as usize == darts,
+        Form::Several => 2 <= bodies,
+    }
+}
+
+// The number that refuses a walk's end without them.
+pub fn end_number(form: Form) -> u32
+    ensures { λ r. ⌜ r ≡ endNumber form ⌝ }
+{
+    match form {
+        Form::One => 15,
+        Form::Several => 30,
+    }
+}
+
+// The walk's end: 15 or 30 by the form, 16, 17, 18, then complete.
 pub fn finish(
     dim: usize,
     darts: usize,
@@ -202,9 +230,9 @@ pub fn finish(
     ensures { λ r. let t = now (tables .entry) in ⌜ leftBy r (now (tables .exit))
         ≡ leaves (reading.finish (walkAt byDart dim darts stand t) (atHand c (now (page .entry)))) t ⌝ }
 {
-    let count = stand.count as usize;
-    if count != darts {
-        return spoiled(15, dim, darts, stand, tables);
+    let form = stand.form;
+    if !bodies_found(form, stand.bodies, stand.count, darts) {
+        return spoiled(end_number(form), dim, darts, stand, tables);
     }
     if tables::first_broken(tables, dim, darts) != darts {
         return spoiled(16, dim, darts, stand, tables);

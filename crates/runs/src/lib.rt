@@ -156,7 +156,8 @@ pub fn turn(
 }
 
 // Every step that needs no bit beyond those at hand; each writes one place of the positions. With the queues below Lj
-// empty, Lj holds the walk numbers from its position up to the count.
+// empty, Lj holds the walk numbers from its position up to the count; past LN the next body has begun, or the walk has
+// ended.
 pub fn walk_on(
     tables: &mut [u16],
     positions: &mut [u16],
