@@ -1,4 +1,5 @@
--- The check taken apart as the code takes it: the sizes, the tables, and the darts without number. The laws of `proofs/` tie this to the verdict of the rules.
+-- The check taken apart as the code takes it: the sizes, the tables, the darts without number and the bodies. The laws of `proofs/` tie this to the verdict of
+-- the rules.
 use Prim.Native.Nat.{ℕ, _*_}
 use mathlib.Core.List.{List}
 use mathlib.Core.Bool.{Bool, not, cond}
@@ -8,6 +9,8 @@ use Rattle.rules.specs.Lists.{first}
 use Rattle.rules.specs.Map.{byDart, mark, dimFits, dartsFit, size, pairsOf, firstBroken}
 use Rattle.rules.specs.Check.{spot, outside, twisted}
 use Rattle.rules.specs.declared.CheckAnswer.{CheckAnswer}
+use Rattle.rules.specs.declared.Form.{Form}
+use Rattle.rules.specs.declared.Form.the-variants.{One, Several}
 
 -- refusals 1 to 5 by their number, or 0; t and room are the lengths of the tables and the work room
 unfoldable pub misfitOf : ℕ → ℕ → ℕ → ℕ → ℕ → ℕ
@@ -32,3 +35,10 @@ misbuiltOf N n t =
 -- a dart has no walk number in the work room
 abbrev pub numberless : List ℕ → ℕ → Bool
 numberless work d = eqb (getD work d mark) mark
+
+-- refusal 9 or 30 with its place, or number 0, once the darts are numbered and r bodies were begun
+unfoldable pub misjoinedOf : Form → ℕ → List ℕ → ℕ → CheckAnswer
+misjoinedOf One n work r =
+    let p = first (numberless work) n in
+    cond (ltb p n) (record { number = 9; place = p }) (record { number = 0; place = 0 })
+misjoinedOf Several n work r = cond (eqb r 1) (record { number = 30; place = 0 }) (record { number = 0; place = 0 })

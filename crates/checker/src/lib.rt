@@ -1,5 +1,7 @@
-// The check of posted tables (refusals 1 to 9): the sizes, the tables, the numbering, and who has no number.
+// The check of posted tables (refusals 1 to 9, and 30): the sizes, the tables, the numbering, and whether it has found
+// the bodies that the form wants.
 use rules::CheckAnswer;
+use rules::Form;
 use rules::Session;
 ghost use mathlib.Core.Path.{_≡_};
 ghost use Prim.Native.Nat.{_≤_};
@@ -7,7 +9,7 @@ ghost use lib.ListN.{length};
 ghost use Rattle.rules.specs.Lists.{first};
 ghost use Rattle.rules.specs.Map.{byDart, Limits};
 ghost use Rattle.rules.specs.Check.{checkAnswer, checkWork};
-ghost use Rattle.checker.specs.Parts.{numberless, misfitOf, misbuiltOf};
+ghost use Rattle.checker.specs.Parts.{numberless, misfitOf, misbuiltOf, misjoinedOf};
 
 // The least dart that has no walk number, or n.
 pub fn first_unnumbered(work: &[u16], darts: usize) -> usize
@@ -101,10 +103,47 @@ pub fn misbuilt(tables: &[u16], dim: usize, darts: usize) -> CheckAnswer
     first_misbuilt(tables, dim, darts)
 }
 
+// Refusal 9 where a dart has no walk number, in the several form 30 where one body is all; or number 0.
+pub fn misjoined(form: Form, work: &[u16], darts: usize, bodies: u16) -> CheckAnswer
+    requires { ⌜ (darts ≤ length (now work)) × (darts ≤ 4096) ⌝ }
+    ensures { λ r. ⌜ r ≡ misjoinedOf form darts (now (work .entry)) bodies ⌝ }
+{
+    match form {
+        Form::One => {
+            let d = first_unnumbered(work, darts);
+            if d < darts {
+                return CheckAnswer {
+                    number: 9,
+                    place: d as u32,
+                };
+            }
+        }
+        Form::Several => {
+            if bodies == 1 {
+                return CheckAnswer {
+                    number: 30,
+                    place: 0,
+                };
+            }
+        }
+    }
+    CheckAnswer {
+        number: 0,
+        place: 0,
+    }
+}
+
 // The check of posted tables.
-pub fn check(dim: usize, darts: usize, root: usize, tables: &[u16], work: &mut [u16]) -> CheckAnswer
-    ensures { λ r. ⌜ (r ≡ checkAnswer byDart dim darts root (now (tables .entry)) (now (work .entry)))
-        × (now (work .exit) ≡ checkWork byDart dim darts root (now (tables .entry)) (now (work .entry))) ⌝ }
+pub fn check(
+    form: Form,
+    dim: usize,
+    darts: usize,
+    root: usize,
+    tables: &[u16],
+    work: &mut [u16],
+) -> CheckAnswer
+    ensures { λ r. ⌜ (r ≡ checkAnswer form byDart dim darts root (now (tables .entry)) (now (work .entry)))
+        × (now (work .exit) ≡ checkWork form byDart dim darts root (now (tables .entry)) (now (work .entry))) ⌝ }
 {
     let first = misfit(dim, darts, root, tables.len(), work.len());
     if first != 0 {
@@ -117,17 +156,11 @@ pub fn check(dim: usize, darts: usize, root: usize, tables: &[u16], work: &mut [
     if next.number != 0 {
         return next;
     }
-    walk::number_all(tables, work, dim, darts, root);
-    let d = first_unnumbered(work, darts);
-    if d < darts {
-        tables::blank(work, 2 * darts);
-        return CheckAnswer {
-            number: 9,
-            place: d as u32,
-        };
+    let bodies = walk::number_all(form, tables, work, dim, darts, root);
+    let last = misjoined(form, work, darts, bodies);
+    if last.number == 0 {
+        return last;
     }
-    CheckAnswer {
-        number: 0,
-        place: 0,
-    }
+    tables::blank(work, 2 * darts);
+    last
 }

@@ -24,7 +24,8 @@ use Rattle.rules.specs.Bodies.{formOf, dimOf}
 use Rattle.rules.specs.Map.{byDart, dimFits, size, blank, Limits}
 use Rattle.rules.specs.Walk.{Walk, start, steps}
 use Rattle.rules.specs.Stream.{bitsOf, value, unpack}
-use Rattle.rules.specs.Reading.{runAll, Reading, spoiled, settle, begun, headerForm, headerDim, headerDarts, readHeader, readingOf, closing, goodAnswer, plainAnswer}
+use Rattle.rules.specs.Reading.{runAll, Reading, spoiled, settle, begun, headerForm, headerDim, headerDarts, readHeader, readingOf, closing, goodAnswer}
+use Rattle.rules.specs.Reading.{plainAnswer}
 use Rattle.rules.specs.Reading.{answerOf, tablesOf, readAnswer, readTables}
 use Rattle.rules.specs.Session.{idle, held, store, opened, walkAt, standOf, walkOf, waitingOf, fit, Left, unchanged, leaves, goOn, afterEnd, pageAs}
 use Rattle.rules.specs.Session.{closeAs, ifFit, page, close, recordFor, tablesFor}
@@ -217,7 +218,8 @@ size-is N n = ap (λ (x : ℕ). x * n) (omega arith)
 pub begin-blank : (N n : ℕ) (t b : List ℕ) → b ≡ blank ((N + 1) * n) t → b ≡ blank (size N n) t
 begin-blank N n t b e = e ∙ ap (λ (k : ℕ). blank k t) (size-is N n)
 
-pub begin-ready : (F : Form) (N n at : ℕ) (t page : List ℕ) → (1 ≤ N) × (N ≤ 6) → (1 ≤ n) × (n ≤ 4096) → (b : List ℕ) → b ≡ blank ((N + 1) * n) t → at ≤ length page
+pub begin-ready : (F : Form) (N n at : ℕ) (t page : List ℕ) → (1 ≤ N) × (N ≤ 6) → (1 ≤ n) × (n ≤ 4096) → (b : List ℕ)
+    → b ≡ blank ((N + 1) * n) t → at ≤ length page
     → Ready N n (standIn F 1 1 (replicate 7 0)) (record { waiting = 0; value = 0; at = at; bit = 0 }) b page
 begin-ready F N n at t page hN hn b e h =
     rw (begin-blank N n t b e)

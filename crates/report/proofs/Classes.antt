@@ -1,5 +1,5 @@
--- Laws of the two classes: where all darts are reached from dart 0 each has one, by the number of links, and if any two classes do, these do: exactly if
--- the links that stay within a class are those that stay in place. Rests on the flood's Floods and the rules' Orbits and Cells.
+-- Laws of the two classes: where all darts are marked each has one, by the number of links from its body's root, and if any two classes do, these do:
+-- exactly if the links that stay within a class are those that stay in place. Rests on the flood's Floods and the rules' Orbits and Cells.
 use Prim.Native.Nat.{ℕ, zero, suc, _+_, _*_, _-_, _/_, _%_, _≤_, _<_}
 use mathlib.Core.Path.{_≡_, refl, ap, sym, _∙_}
 use mathlib.Core.Logic.{_≢_}
@@ -10,15 +10,17 @@ use lib.ListN.{getD}
 use lib.Dec.{eqb}
 use borrow.Author.Tests.{eqb-true, eqb-false, eq-eqb, ne-eqb, not-true}
 use Rattle.rules.specs.Lists.{someBelow, countBelow}
-use Rattle.rules.specs.Map.{byDart, size, link, allRanks, Valid}
+use Rattle.rules.specs.Map.{byDart, size, link, Reached, allRanks, Valid}
 use Rattle.rules.specs.Report.{freePairs, orientable}
 use Rattle.rules.proofs.Lists.{and-left, and-right, not-both, some-below, below-some}
 use Rattle.rules.proofs.Places.{nth-rank, nth-dart, nth-below, rank-nth, dart-nth}
-use Rattle.rules.proofs.Orbits.{valid-closed, reached-below, count-wider}
+use Rattle.rules.proofs.Orbits.{Closed, valid-closed, reached-below, reached-trans, reached-sym, count-wider}
 use Rattle.rules.proofs.Cells.{Orientable, orientable-sound, orientable-complete}
 use Rattle.flood.specs.Flood.{Linked}
+use Rattle.flood.proofs.Queues.{full-marked}
 use Rattle.flood.proofs.Floods.{linked-two, linked-reached}
-use Rattle.report.specs.Spans.{Spanned, AllMarked}
+use Rattle.report.specs.declared.Spanning.{Spanning}
+use Rattle.report.specs.Spans.{Rooted, Spanned}
 use Rattle.report.specs.Tests.{alike, isFree}
 
 -- the class that a dart has by the number of links from a dart of class b
@@ -55,10 +57,33 @@ linked-class {s = s} v O h (Linked.onward {e} {m} i hi k ne r) =
     let below = reached-below (valid-closed v) h (linked-reached r) in
     O .other i e hi below ne ∙ (ap not (linked-class v O h r) ∙ sym (turn-next m (O .class s) (linked-two (omega arith) r)))
 
+-- a body has one root: each is the least dart of it
+one-root : {N n next d m e k i : ℕ} {t : List ℕ} → Valid byDart N n t → next ≤ n → (R : Rooted N n t next d m) (S : Rooted N n t next e k)
+    → i ≤ N → e ≡ link byDart N n t i d → R .root ≡ S .root
+one-root {N} {n} {d = d} {e = e} {i = i} {t = t} v h R S hi z = omega (arith, R .least (S .root) there, S .least (R .root) (reached-sym C hr there))
+  where
+    C : Closed byDart N n t
+    C = valid-closed v
+
+    hr : R .root < n
+    hr = omega (arith, R .early)
+
+    hs : S .root < n
+    hs = omega (arith, S .early)
+
+    across : Reached byDart allRanks N n t (R .root) e
+    across = rw z (Reached.onward i hi (unfold allRanks in refl) (linked-reached (R .linked)))
+
+    there : Reached byDart allRanks N n t (R .root) (S .root)
+    there = reached-trans across (reached-sym C hs (linked-reached (S .linked)))
+
 -- every dart has a class
-module _ {N n top : ℕ} {t w : List ℕ} (v : Valid byDart N n t) (h1 : 1 ≤ n) (S : Spanned N n t top w) (all : AllMarked n w) where
-  linked-all : (d : ℕ) → d < n → Linked allRanks N n t 0 0 d (getD w d 0)
-  linked-all d h = S .linked d h (all d h)
+module _ {N n : ℕ} {s : Spanning} {t w : List ℕ} (v : Valid byDart N n t) (h1 : 1 ≤ n) (S : Spanned N n t s w) (full : n ≤ s .tail) where
+  rooted-all : (d : ℕ) → d < n → Rooted N n t (s .next) d (getD w d 0)
+  rooted-all d h = S .rooted d h (full-marked (S .queue) full d h)
+
+  class-two : (d : ℕ) → d < n → getD w d 0 < 2
+  class-two d h = linked-two (omega arith) (rooted-all d h .linked)
 
   -- the k-th link joins two different darts of one class
   joins : ℕ → Bool
@@ -88,9 +113,8 @@ module _ {N n top : ℕ} {t w : List ℕ} (v : Valid byDart N n t) (h1 : 1 ≤ n
           let x = link byDart N n t i d in
           let a = alike-free q (i * n + d) (nth-below N n i d hi hd) in
           let b : eqb (getD w d 0) (getD w x 0) ≡ true → eqb x d ≡ true = rw (rank-nth n i d hd, dart-nth n i d hd) at a in
-          let two = linked-two (omega arith) (linked-all d hd) in
-          let too = linked-two (omega arith) (linked-all x (v .inside i d hi hd)) in
-          other-one (getD w d 0) (getD w x 0) two too (λ z. ne (eqb-true x d (b (eq-eqb (getD w d 0) (getD w x 0) z))))
+          other-one (getD w d 0) (getD w x 0) (class-two d hd) (class-two x (v .inside i d hi hd))
+          (λ z. ne (eqb-true x d (b (eq-eqb (getD w d 0) (getD w x 0) z))))
 
   -- a link joins two darts of one class: no classes do
   alike-refutes : someBelow (size N n) joins ≡ true → Orientable byDart N n t → ⊥
@@ -99,9 +123,13 @@ module _ {N n top : ℕ} {t w : List ℕ} (v : Valid byDart N n t) (h1 : 1 ≤ n
     where
       joined : (i d : ℕ) → i ≤ N → d < n → getD w d 0 ≡ getD w (link byDart N n t i d) 0 → link byDart N n t i d ≢ d → ⊥
       joined i d hi hd e ne =
-          let a = linked-class v O (omega arith) (linked-all d hd) in
-          let b = linked-class v O (omega arith) (linked-all (link byDart N n t i d) (v .inside i d hi hd)) in
-          not-own (O .class d) (a ∙ (ap (λ (x : ℕ). turn x (O .class 0)) e ∙ (sym b ∙ O .other i d hi hd ne)))
+          let x = link byDart N n t i d in
+          let R = rooted-all d hd in
+          let T = rooted-all x (v .inside i d hi hd) in
+          let a = linked-class v O (omega (arith, R .early, S .within)) (R .linked) in
+          let b = linked-class v O (omega (arith, T .early, S .within)) (T .linked) in
+          let r = ap (λ (y : ℕ). turn (getD w x 0) (O .class y)) (one-root v (S .within) R T hi refl) in
+          not-own (O .class d) (a ∙ (ap (λ (y : ℕ). turn y (O .class (R .root))) e ∙ (r ∙ (sym b ∙ O .other i d hi hd ne))))
 
       same : (k : ℕ) → k < size N n → joins k ≡ true → ⊥
       same k h e =

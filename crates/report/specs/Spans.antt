@@ -1,31 +1,40 @@
--- What the report marks on its way: N-cells one after another, and all that is reached from dart 0.
-use Prim.Native.Nat.{ℕ, _+_, _≤_, _<_}
+-- What the report marks on its way: body after body, each one N-cell after another.
+use Prim.Native.Nat.{ℕ, _≤_, _<_}
 use mathlib.Core.Path.{_≡_}
 use mathlib.Core.List.{List}
 use lib.ListN.{length, getD}
-use Rattle.rules.specs.Map.{byDart, link, Reached, allRanks, allBut}
-use Rattle.rules.specs.Report.{Cell, cells}
+use Rattle.rules.specs.Map.{byDart, mark, link, Reached, allRanks, allBut}
+use Rattle.rules.specs.Report.{Cell}
 use Rattle.rules.specs.Inner.{Picks}
 use Rattle.flood.specs.Flood.{Marked, queued, Queue, Linked, Explored}
+use Rattle.report.specs.declared.Spanning.{Spanning}
 
--- every dart has a class
-abbrev pub AllMarked : ℕ → List ℕ → Type 0
-AllMarked n w = (d : ℕ) → d < n → Marked w d
+-- every dart below `next` has a class
+abbrev pub Begun : ℕ → List ℕ → Type 0
+Begun next w = (d : ℕ) → d < next → Marked w d
 
--- N-cells are marked, that of dart 0 first, as far as aN leads from the darts of the queue below `head`;
--- they are so many, and each class says by how many links
-pub record Spun (N n : ℕ) (t : List ℕ) (head tail count : ℕ) (w : List ℕ) : Type 0 where
-  pub queue : Queue n tail w
-  pub explored : Explored (allBut N) N n t 0 tail w
+-- d is a dart that has none
+abbrev pub Unmarked : ℕ → List ℕ → ℕ → Type 0
+Unmarked n w d = (d < n) × (getD w d 0 ≡ mark)
+
+-- dart d is linked from the least dart of its body, the root, which is below `next`, and class m says by how many links
+pub record Rooted (N n : ℕ) (t : List ℕ) (next d m : ℕ) : Type 0 where
+  pub root : ℕ
+  pub early : root < next
+  pub least : (e : ℕ) → Reached byDart allRanks N n t root e → root ≤ e
+  pub linked : Linked allRanks N n t root 0 d m
+
+-- of the bodies of the darts below `next` N-cells are marked, as far as aN leads from the darts of the queue below `head`;
+-- they are so many, and each class says by how many links from the body's root
+pub record Spun (N n : ℕ) (t : List ℕ) (head : ℕ) (s : Spanning) (w : List ℕ) : Type 0 where
+  pub queue : Queue n (s .tail) w
+  pub explored : Explored (allBut N) N n t 0 (s .tail) w
   pub crossed : (p : ℕ) → p < head → Marked w (link byDart N n t N (queued n w p))
-  pub rooted : Marked w 0
-  pub linked : (d : ℕ) → d < n → Marked w d → Linked allRanks N n t 0 0 d (getD w d 0)
-  pub begun : (l : List ℕ) × (length l ≡ count) × Picks (λ d. (d < n) × Marked w d) (Cell byDart N n t N) l
-  pub few : count ≤ head + 1
+  pub within : s .next ≤ n
+  pub begun : Begun (s .next) w
+  pub rooted : (d : ℕ) → d < n → Marked w d → Rooted N n t (s .next) d (getD w d 0)
+  pub cells : (l : List ℕ) × (length l ≡ s .cells) × Picks (λ d. (d < n) × Marked w d) (Cell byDart N n t N) l
 
--- all that is reached from dart 0 is marked and nothing else, and each class says by how many links;
--- where that is every dart, `count` is the number of N-cells
-pub record Spanned (N n : ℕ) (t : List ℕ) (count : ℕ) (w : List ℕ) : Type 0 where
-  pub linked : (d : ℕ) → d < n → Marked w d → Linked allRanks N n t 0 0 d (getD w d 0)
-  pub reached : (d : ℕ) → Reached byDart allRanks N n t 0 d → Marked w d
-  pub counted : AllMarked n w → count ≡ cells byDart N n t N
+-- aN has been followed from all of the queue: the bodies of the darts below `next` are marked and nothing else
+abbrev pub Spanned : ℕ → ℕ → List ℕ → Spanning → List ℕ → Type 0
+Spanned N n t s w = Spun N n t (s .tail) s w

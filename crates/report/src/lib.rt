@@ -1,20 +1,26 @@
-// The cell report: floods over lent work room serve refusal 9, the cells of each rank and the two classes.
+// The cell report: floods over lent work room serve refusals 9 and 30, the cells of each rank and the two classes.
+use rules::CheckAnswer;
+use rules::Form;
 use rules::ReportAnswer;
 use rules::Session;
 ghost use mathlib.Core.Path.{_≡_};
 ghost use Prim.Native.Nat.{_+_, _*_, _≤_, _<_};
 ghost use lib.ListN.{length, drop};
+ghost use Rattle.rules.specs.Lists.{first};
 ghost use Rattle.rules.specs.Map.{byDart, Limits, Valid, size, blank};
 ghost use Rattle.rules.specs.Report.{reportAnswer, reportWork};
 ghost use Rattle.flood.specs.Flood.{Queue};
-ghost use Rattle.report.specs.Answer.{refusalOf, countedOf};
-ghost use Rattle.report.specs.Spans.{Spun, Spanned, AllMarked};
+ghost use Rattle.checker.specs.Parts.{numberless};
+ghost use Rattle.report.specs.Answer.{refusalOf, countedOf, misjoinedOf};
+ghost use Rattle.report.specs.Spans.{Begun, Unmarked, Spun, Spanned};
 ghost use Rattle.report.specs.Tests.{Counted};
 
-// Where the marking of all that is reached from dart 0 stands: the queue's length and how many N-cells are marked.
+// Where the marking of bodies stands: the queue's length, how many N-cells are marked, and a dart below which every
+// dart has a mark.
 pub struct Spanning {
     pub tail: usize,
     pub cells: u32,
+    pub next: usize,
 }
 
 // How many links stay within a class, and how many of these stay in place: the free pairs.
@@ -78,8 +84,8 @@ pub fn span_step(
     s: Spanning,
 ) -> Spanning
     requires { ⌜ Limits dim darts (now tables) × Valid byDart dim darts (now tables) × (head < s .tail)
-        × Spun dim darts (now tables) head (s .tail) (s .cells) (now work) ⌝ }
-    ensures { λ r. ⌜ Spun dim darts (now (tables .entry)) (head + 1) (r .tail) (r .cells) (now (work .exit))
+        × Spun dim darts (now tables) head s (now work) ⌝ }
+    ensures { λ r. ⌜ Spun dim darts (now (tables .entry)) (head + 1) r (now (work .exit)) × (r .next ≡ s .next)
         × (drop (2 * darts) (now (work .exit)) ≡ drop (2 * darts) (now (work .entry))) ⌝ }
 {
     let d = flood::queued(work, darts, head);
@@ -93,26 +99,108 @@ pub fn span_step(
     Spanning {
         tail,
         cells: s.cells + 1,
+        next: s.next,
     }
 }
 
-// All that is reached from dart 0 is marked, one N-cell after another; a class says by how many links. The answer is
-// how many darts that is and the number of those N-cells.
-pub fn span(tables: &[u16], work: &mut [u16], dim: usize, darts: usize) -> Spanning
+// The body of dart `next`, which has no mark, is marked, one N-cell after another; a class says by how many links from
+// that dart, its root.
+pub fn span_body(
+    tables: &[u16],
+    work: &mut [u16],
+    dim: usize,
+    darts: usize,
+    from: Spanning,
+) -> Spanning
     requires { ⌜ Limits dim darts (now tables) × Valid byDart dim darts (now tables)
-        × (2 * darts ≤ length (now work)) ⌝ }
-    ensures { λ r. ⌜ Spanned dim darts (now (tables .entry)) (r .cells) (now (work .exit))
-        × Queue darts (r .tail) (now (work .exit))
+        × Spanned dim darts (now tables) from (now work) × Unmarked darts (now work) (from .next) ⌝ }
+    ensures { λ r. ⌜ Spanned dim darts (now (tables .entry)) r (now (work .exit)) × (r .next ≡ from .next + 1)
         × (drop (2 * darts) (now (work .exit)) ≡ drop (2 * darts) (now (work .entry))) ⌝ }
 {
-    tables::blank(work, darts);
+    let root = from.next as u16;
     let ranks = flood::all_but(dim);
-    let tail = flood::flood(tables, work, dim, darts, ranks, 0, 0, 0);
-    let mut s = Spanning { tail, cells: 1 };
-    let mut head = 0;
+    let tail = flood::flood(tables, work, dim, darts, ranks, from.tail, root, 0);
+    let mut s = Spanning {
+        tail,
+        cells: from.cells + 1,
+        next: from.next + 1,
+    };
+    let mut head = from.tail;
     while head < s.tail {
         s = span_step(tables, work, dim, darts, head, s);
         head += 1;
+    }
+    s
+}
+
+// All that is reached from dart 0 is marked: the first body.
+pub fn span(tables: &[u16], work: &mut [u16], dim: usize, darts: usize) -> Spanning
+    requires { ⌜ Limits dim darts (now tables) × Valid byDart dim darts (now tables)
+        × (2 * darts ≤ length (now work)) ⌝ }
+    ensures { λ r. ⌜ Spanned dim darts (now (tables .entry)) r (now (work .exit)) × (r .next ≡ 1)
+        × (drop (2 * darts) (now (work .exit)) ≡ drop (2 * darts) (now (work .entry))) ⌝ }
+{
+    tables::blank(work, darts);
+    let none = Spanning {
+        tail: 0,
+        cells: 0,
+        next: 0,
+    };
+    span_body(tables, work, dim, darts, none)
+}
+
+// The least dart that has no mark, or n; those below `next` have one. Over all bodies together it goes forward once.
+pub fn least_unmarked(work: &[u16], darts: usize, next: usize) -> usize
+    requires { ⌜ (darts ≤ length (now work)) × (next ≤ darts) × Begun next (now work) ⌝ }
+    ensures { λ r. ⌜ r ≡ first (numberless (now (work .entry))) darts ⌝ }
+{
+    let mut d = next;
+    while d < darts {
+        if work[d] == Session::NO_LINK {
+            return d;
+        }
+        d += 1;
+    }
+    d
+}
+
+// The next body begins at the least dart that has no mark.
+pub fn next_body(
+    tables: &[u16],
+    work: &mut [u16],
+    dim: usize,
+    darts: usize,
+    s: Spanning,
+) -> Spanning
+    requires { ⌜ Limits dim darts (now tables) × Valid byDart dim darts (now tables) × (s .tail < darts)
+        × Spanned dim darts (now tables) s (now work) ⌝ }
+    ensures { λ r. ⌜ Spanned dim darts (now (tables .entry)) r (now (work .exit)) × (s .next < r .next)
+        × (drop (2 * darts) (now (work .exit)) ≡ drop (2 * darts) (now (work .entry))) ⌝ }
+{
+    let from = Spanning {
+        tail: s.tail,
+        cells: s.cells,
+        next: least_unmarked(work, darts, s.next),
+    };
+    span_body(tables, work, dim, darts, from)
+}
+
+// Body after body, until every dart has a mark.
+pub fn span_rest(
+    tables: &[u16],
+    work: &mut [u16],
+    dim: usize,
+    darts: usize,
+    first: Spanning,
+) -> Spanning
+    requires { ⌜ Limits dim darts (now tables) × Valid byDart dim darts (now tables)
+        × Spanned dim darts (now tables) first (now work) ⌝ }
+    ensures { λ r. ⌜ Spanned dim darts (now (tables .entry)) r (now (work .exit)) × (darts ≤ r .tail)
+        × (drop (2 * darts) (now (work .exit)) ≡ drop (2 * darts) (now (work .entry))) ⌝ }
+{
+    let mut s = first;
+    while s.tail < darts {
+        s = next_body(tables, work, dim, darts, s);
     }
     s
 }
@@ -130,17 +218,23 @@ pub fn refusal(number: u32, place: u32) -> ReportAnswer
     }
 }
 
-// The answer for a connected map. If any two classes do, those by the number of links from dart 0 do. A link that stays
-// in place stays within a class; so they do exactly if no other link does: if as many links stay within a class as
-// pairs are free.
-pub fn counted(tables: &[u16], work: &mut [u16], dim: usize, darts: usize, top: u32) -> ReportAnswer
-    requires { ⌜ Limits dim darts (now tables) × Valid byDart dim darts (now tables) × (2 * darts ≤ length (now work))
-        × Spanned dim darts (now tables) top (now work) × AllMarked darts (now work) ⌝ }
+// The answer for a map whose darts are all marked. If any two classes do, those by the number of links from the root of
+// each body do. A link that stays in place stays within a class; so they do exactly if no other link does: if as many
+// links stay within a class as pairs are free.
+pub fn counted(
+    tables: &[u16],
+    work: &mut [u16],
+    dim: usize,
+    darts: usize,
+    s: Spanning,
+) -> ReportAnswer
+    requires { ⌜ Limits dim darts (now tables) × Valid byDart dim darts (now tables)
+        × Spanned dim darts (now tables) s (now work) × (darts ≤ s .tail) ⌝ }
     ensures { λ r. ⌜ (r ≡ countedOf dim darts (now (tables .entry)))
         × (now (work .exit) ≡ blank (2 * darts) (now (work .entry))) ⌝ }
 {
     let t = tally_all(tables, work, dim, darts);
-    let cells = counts::cell_counts(tables, work, dim, darts, top);
+    let cells = counts::cell_counts(tables, work, dim, darts, s.cells);
     tables::blank(work, 2 * darts);
     ReportAnswer {
         number: 0,
@@ -151,25 +245,61 @@ pub fn counted(tables: &[u16], work: &mut [u16], dim: usize, darts: usize, top: 
     }
 }
 
-// The cell report of posted tables. What is reached from dart 0 serves refusal 9, the two classes and the number of
-// N-cells.
-pub fn report(dim: usize, darts: usize, tables: &[u16], work: &mut [u16]) -> ReportAnswer
-    ensures { λ r. ⌜ (r ≡ reportAnswer byDart dim darts (now (tables .entry)) (now (work .entry)))
-        × (now (work .exit) ≡ reportWork byDart dim darts (now (tables .entry)) (now (work .entry))) ⌝ }
+// Refusal 9 or 30 by the form, or number 0: what is reached from dart 0 is marked, and the queue holds it.
+pub fn misjoined(form: Form, work: &[u16], darts: usize, s: Spanning) -> CheckAnswer
+    requires { ⌜ (darts ≤ 4096) × (s .next ≤ darts) × Begun (s .next) (now work) × Queue darts (s .tail) (now work) ⌝ }
+    ensures { λ r. ⌜ r ≡ misjoinedOf form darts (first (numberless (now (work .entry))) darts) ⌝ }
 {
-    let first = checker::misfit(dim, darts, 0, tables.len(), work.len());
-    if first != 0 {
-        return refusal(first, 0);
+    match form {
+        Form::One => {
+            if s.tail < darts {
+                return CheckAnswer {
+                    number: 9,
+                    place: least_unmarked(work, darts, s.next) as u32,
+                };
+            }
+        }
+        Form::Several => {
+            if darts <= s.tail {
+                return CheckAnswer {
+                    number: 30,
+                    place: 0,
+                };
+            }
+        }
     }
-    let next = checker::misbuilt(tables, dim, darts);
-    if next.number != 0 {
-        return refusal(next.number, next.place);
+    CheckAnswer {
+        number: 0,
+        place: 0,
     }
-    let s = span(tables, work, dim, darts);
-    if s.tail < darts {
-        let d = checker::first_unnumbered(work, darts);
+}
+
+// The cell report of posted tables, by the form. What is reached from dart 0 serves refusals 9 and 30; then the other
+// bodies are marked, of which the one-body form has none.
+pub fn report(
+    form: Form,
+    dim: usize,
+    darts: usize,
+    tables: &[u16],
+    work: &mut [u16],
+) -> ReportAnswer
+    ensures { λ r. ⌜ (r ≡ reportAnswer form byDart dim darts (now (tables .entry)) (now (work .entry)))
+        × (now (work .exit) ≡ reportWork form byDart dim darts (now (tables .entry)) (now (work .entry))) ⌝ }
+{
+    let sizes = checker::misfit(dim, darts, 0, tables.len(), work.len());
+    if sizes != 0 {
+        return refusal(sizes, 0);
+    }
+    let built = checker::misbuilt(tables, dim, darts);
+    if built.number != 0 {
+        return refusal(built.number, built.place);
+    }
+    let first = span(tables, work, dim, darts);
+    let joined = misjoined(form, work, darts, first);
+    if joined.number != 0 {
         tables::blank(work, 2 * darts);
-        return refusal(9, d as u32);
+        return refusal(joined.number, joined.place);
     }
-    counted(tables, work, dim, darts, s.cells)
+    let all = span_rest(tables, work, dim, darts, first);
+    counted(tables, work, dim, darts, all)
 }

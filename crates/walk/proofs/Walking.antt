@@ -5,23 +5,29 @@ use mathlib.Core.Path.{_≡_, refl, ap, sym, _∙_}
 use mathlib.Core.Bool.{Bool, true, false, cond}
 use mathlib.Core.List.{List, [], _∷_, _++_}
 use native.Mathlib.Omega.{arith}
-use lib.ListN.{length, getD}
+use lib.ListN.{length, getD, length-append}
 use lib.Dec.{eqb}
-use borrow.Author.Tests.{eqb-true, ne-eqb}
+use borrow.Author.Tests.{eqb-true, eqb-false, ne-eqb}
+use Rattle.rules.specs.declared.Form.{Form}
 use Rattle.rules.specs.Lists.{number, sum}
 use Rattle.rules.specs.Map.{byDart, link, Valid}
-use Rattle.rules.specs.Walk.{Walk, start, Head, head, linkOf, Partner, partner, pass, join, fresh, tie, steps, Symbol, apply, enough}
-use Rattle.rules.specs.Walk.{Written, symbolOf, named, writeSymbol, writeWith, writeAt, writeStep, Walked, prepend, writeOn, write, walked, namesOf}
-use Rattle.rules.specs.Inner.{Inv, Emptied, Lowest}
-use Rattle.rules.proofs.Positions.{Turn}
+use Rattle.rules.specs.Walk.{Walk, start, Head, head, linkOf, Partner, partner, pass, join, fresh, due, oneMore, resume, tie, steps, Symbol, apply, enough}
+use Rattle.rules.specs.Walk.{Written, symbolOf, named, writeSymbol, writeWith, writeAt, leastUnnumbered, resumeNames, resumed, writeStep}
+use Rattle.rules.specs.Walk.{Walked, prepend, writeOn, write, walked, namesOf}
+use Rattle.rules.specs.Inner.{Inv, Emptied, Lowest, bodyDue}
+use Rattle.rules.proofs.Lists.{number-le}
+use Rattle.rules.proofs.Positions.{Next, Turn, fresh-next}
 use Rattle.rules.proofs.Lowest.{emptied-passed, head-lowest, head-past}
 use Rattle.rules.proofs.Links.{next-below}
-use Rattle.rules.proofs.Walks.{sum-set, next-of, deduced-below}
-use Rattle.rules.proofs.Moves.{see-known, see-deduced}
+use Rattle.rules.proofs.Walks.{start-inv, sum-set, next-of, pass-inv, tie-inv, fresh-inv, deduced-below}
+use Rattle.rules.proofs.Bodies.{headed-rests, due-past, rested, begun, resume-inv, resume-steps, resume-rests}
+use Rattle.rules.proofs.Moves.{see-known, see-deduced, Grows, resume-grows}
 use Rattle.rules.proofs.Runs.{total, steps-total}
-use Rattle.rules.proofs.Names.{name, Names, deduced-name}
+use Rattle.rules.proofs.Readings.{start-rests}
+use Rattle.rules.proofs.Names.{name, Names, room, deduced-name}
 use Rattle.rules.proofs.Numbering.{After, Kept, after-kept}
 use Rattle.walk.specs.Numbers.{numberIn, dartIn, positionsAfter}
+use Rattle.walk.specs.Standing.{Along, Walking}
 use Rattle.walk.proofs.Rooms.{Agrees, nameless}
 
 -- the names after a step whose partner is x
@@ -32,9 +38,16 @@ namesAfter names x = cond (nameless names x) (names ++ (x ∷ [])) names
 pub record WalkStep (m : List ℕ) (w : Walk) (names : List ℕ) (j x : ℕ) : Type 0 where
   pub out : List Symbol
   pub walk : Walk
-  pub step : writeStep m w names ≡ Written.wrote out walk (namesAfter names x)
+  pub step : writeAt m w names (head w) ≡ Written.wrote out walk (namesAfter names x)
   pub positions : walk .positions ≡ positionsAfter j (w .positions)
   pub count : walk .count ≡ cond (nameless names x) (w .count + 1) (w .count)
+  pub bodies : walk .bodies ≡ w .bodies
+  pub inv : Inv walk
+
+-- however a step is told, it leads to the same walk
+same-walk : {m : List ℕ} {w : Walk} {names : List ℕ} {j x : ℕ} (S : WalkStep m w names j x) {out : List Symbol} {w' : Walk} {names' : List ℕ}
+    → writeAt m w names (head w) ≡ Written.wrote out w' names' → S .walk ≡ w'
+same-walk S e = let f = sym (S .step) ∙ e in cc f
 
 module _ (m : List ℕ) (root : ℕ) (w : Walk) (names : List ℕ) (v : Inv w) (M : Names m root w names) (A : Valid (w .layout) (w .dim) (w .darts) m)
     (j b : ℕ) (h : head w ≡ Head.at j b) where
@@ -53,34 +66,66 @@ module _ (m : List ℕ) (root : ℕ) (w : Walk) (names : List ℕ) (v : Inv w) (
   has-number e l q = ne-eqb (number names other) (length names) (omega (arith, M .len, M .back e l, ap (number names) q))
 
   stepped : WalkStep m w names j other
-  unfolding writeStep writeAt writeWith writeSymbol symbolOf named name apply tie pass join fresh other
+  unfolding writeAt writeWith writeSymbol symbolOf named name apply tie pass join fresh other
   stepped = go (partner w j b) refl
     where
       one : getD (w .positions) j 0 + 1 ≡ suc (getD (w .positions) j 0)
       one = omega arith
 
+      next : Next w j b
+      next = turn .next
+
       asked : partner w j b ≡ Partner.asked → (s u : Bool) → eqb other (name names b) ≡ s → nameless names other ≡ u → WalkStep m w names j other
       asked p true u q r =
-          let z = has-number b below (sym (eqb-true other (name names b) q)) in
-          record { out = Symbol.border ∷ []; walk = apply w j b Symbol.border; step = rw (h, p, q, z); positions = rw one; count = rw z }
+          let z = has-number b below (sym (eqb-true other (name names b) q)) in record {
+            out = Symbol.border ∷ [];
+            walk = apply w j b Symbol.border;
+            step = rw (h, p, q, z);
+            positions = rw one;
+            count = rw z;
+            bodies = refl;
+            inv = tie-inv w v j b b next below;
+          }
       asked p false true q r =
-          record { out = Symbol.new ∷ []; walk = apply w j b Symbol.new; step = rw (h, p, q, r); positions = rw one; count = rw r (omega arith) }
+          let nx = eqb-true (number names other) (length names) r in
+          let l = room m root w names v M A other nx (A .inside j (name names b) (next .ranked) (M .low b below)) in
+          record {
+            out = Symbol.new ∷ [];
+            walk = apply w j b Symbol.new;
+            step = rw (h, p, q, r);
+            positions = rw one;
+            count = rw r (omega arith);
+            bodies = refl;
+            inv = tie-inv (fresh w) (fresh-inv w v l) j b (w .count) (fresh-next w (v .shape) j b next) (omega arith);
+          }
       asked p false false q r =
           let s = Symbol.index (number names other) in
-          record { out = s ∷ []; walk = apply w j b s; step = rw (h, p, q, r); positions = rw one; count = rw r }
+          let l : number names other < w .count =
+          omega (arith, eqb-false (number names other) (length names) r, number-le names other, M .len) in record {
+            out = s ∷ [];
+            walk = apply w j b s;
+            step = rw (h, p, q, r);
+            positions = rw one;
+            count = rw r;
+            bodies = refl;
+            inv = tie-inv w v j b (number names other) next l;
+          }
 
       go : (p : Partner) → partner w j b ≡ p → WalkStep m w names j other
       go Partner.known p =
           let k = see-known w j b p in
-          let l = v .links .far j b (turn .next .ranked) (omega (arith, below, v .shape .within)) k in
-          let z = has-number (linkOf w j b) l (sym (M .maps j b (turn .next .ranked) below k)) in
-          record { out = []; walk = pass w j b; step = rw (h, p, z); positions = rw one; count = rw z }
+          let l = v .links .far j b (next .ranked) (omega (arith, below, v .shape .within)) k in
+          let z = has-number (linkOf w j b) l (sym (M .maps j b (next .ranked) below k)) in
+          record { out = []; walk = pass w j b; step = rw (h, p, z); positions = rw one; count = rw z; bodies = refl; inv = pass-inv w v j b next k }
       go (Partner.deduced e) p =
           let d = see-deduced w j b e p in
           let l : e < w .count = rw (d .value) (deduced-below w v (d .i) j b turn (d .gap) (d .known)) in
           let z = has-number e l (deduced-name m root w names v M A j b e turn d) in
-          record { out = []; walk = tie w j b e; step = rw (h, p, z); positions = rw one; count = rw z }
+          record { out = []; walk = tie w j b e; step = rw (h, p, z); positions = rw one; count = rw z; bodies = refl; inv = tie-inv w v j b e next l }
       go Partner.asked p = asked p (eqb other (name names b)) (nameless names other) refl refl
+
+  stepped-inv : {out : List Symbol} {w' : Walk} {names' : List ℕ} → writeAt m w names (head w) ≡ Written.wrote out w' names' → Inv w'
+  stepped-inv e = rw (same-walk stepped e) at (stepped .inv)
 
 -- a valid map within the limits, and a root
 pub record Rooted (N n : ℕ) (m : List ℕ) (root : ℕ) : Type 0 where
@@ -89,18 +134,33 @@ pub record Rooted (N n : ℕ) (m : List ℕ) (root : ℕ) : Type 0 where
   pub dart : root < n
   pub valid : Valid byDart N n m
 
--- where a walk from the root stands, by the count and the positions
-pub record Walking (N n : ℕ) (m : List ℕ) (root c : ℕ) (ps : List ℕ) : Type 0 where
-  pub done : ℕ
-  pub walk : Walk
-  pub names : List ℕ
-  pub after : After byDart N n m root done walk names
-  pub count : c ≡ walk .count
-  pub positions : ps ≡ walk .positions
+-- where no body is due, none is begun over a map either
+pub rested-names : (w : Walk) (names : List ℕ) → due w ≡ false → resumeNames w names ≡ names
+unfolding resumeNames
+rested-names w names e = rw e
+
+begun-names : (w : Walk) (names : List ℕ) → due w ≡ true → resumeNames w names ≡ names ++ (leastUnnumbered (w .darts) names ∷ [])
+unfolding resumeNames
+begun-names w names e = rw e
+
+-- the names of a walk before a body is begun are as many as its count
+resumed-length : (w : Walk) (names : List ℕ) → length (resumeNames w names) ≡ resume w .count → length names ≡ w .count
+unfolding resumeNames resume
+resumed-length w names = go (due w)
+  where
+    go : (t : Bool) → length (cond t (names ++ (leastUnnumbered (w .darts) names ∷ [])) names) ≡ (cond t (oneMore (fresh w)) w) .count
+        → length names ≡ w .count
+    go false e = e
+    go true e = unfold oneMore fresh in omega (arith, simp length-append at e)
+
+-- what a walk along the map has come to: in the walk of the definition the body that is due is begun at once
+record Came (F : Form) (N n : ℕ) (m : List ℕ) (root : ℕ) (w : Walk) (names : List ℕ) : Type 0 where
+  inv : Inv w
+  after : After F byDart N n m root (steps w) (resume w) (resumeNames w names)
 
 -- what it still does
-unfoldable pub ahead : {N n : ℕ} {m : List ℕ} {root c : ℕ} {ps : List ℕ} → Walking N n m root c ps → Walked
-ahead {N} {n} {m} {root} {c} {ps} G = write (enough N n - G .done) m (G .walk) (G .names)
+unfoldable pub ahead : {F : Form} {N n : ℕ} {m : List ℕ} {root c : ℕ} {ps : List ℕ} → Walking F N n m root c ps → Walked
+ahead {F} {N} {n} {m} {root} {c} {ps} G = write (enough N n - steps (G .walk)) m (resume (G .walk)) (resumeNames (G .walk) (G .names))
 
 -- a step is the first of what the walk does, and nothing is done where no queue has a head
 write-next : (f : ℕ) (m : List ℕ) (w w' : Walk) (names names' : List ℕ) (out : List Symbol) → writeStep m w names ≡ Written.wrote out w' names'
@@ -109,7 +169,7 @@ unfolding write writeOn
 write-next f m w w' names names' out e = rw e
 
 write-end : (f : ℕ) (m : List ℕ) (w : Walk) (names : List ℕ) → head w ≡ Head.none → write (suc f) m w names ≡ record { symbols = []; names = names }
-unfolding write writeOn writeStep writeAt
+unfolding write writeOn writeStep resumed writeAt
 write-end f m w names o = rw o
 
 -- both as the walk counts its steps
@@ -120,12 +180,34 @@ ahead-next N n m k w w' names names' out l e =
     let f : enough N n - k ≡ suc (enough N n - suc k) = omega arith in
     ap (λ (x : ℕ). write x m w names) f ∙ write-next (enough N n - suc k) m w w' names names' out e
 
-module _ {N n : ℕ} {m : List ℕ} {root : ℕ} (P : Rooted N n m root) where
-  keeps : {k : ℕ} {w : Walk} {names : List ℕ} → After byDart N n m root k w names → Kept byDart N n m root k w names
-  keeps a = after-kept byDart N n m root (P .ranks) (P .small) (P .dart) (P .valid) a
+-- a step, with the body begun that is due after it
+step-resumed : (m : List ℕ) (w : Walk) (names : List ℕ) {w' : Walk} {names' : List ℕ} {out : List Symbol}
+    → writeAt m w names (head w) ≡ Written.wrote out w' names'
+    → writeStep m w names ≡ Written.wrote out (resume w') (resumeNames w' names')
+unfolding writeStep resumed
+step-resumed m w names e = rw e
+
+-- the start: all is still to do
+module _ (F : Form) {N n : ℕ} {m : List ℕ} {root : ℕ} (P : Rooted N n m root) where
+  unfoldable pub walking-starts : Walking F N n m root 1 (0 ∷ 0 ∷ 0 ∷ 0 ∷ 0 ∷ 0 ∷ 0 ∷ [])
+  unfolding start
+  walking-starts = record { walk = start F byDart N n []; names = root ∷ []; along = Along.begin; count = refl; positions = refl }
+
+  pub starts-ahead : ahead walking-starts ≡ walked F byDart N n m root
+  unfolding ahead walking-starts walked
+  starts-ahead =
+      let w = start F byDart N n [] in
+      let r = start-rests F byDart N n [] in
+      let z : steps w ≡ 0 = unfold steps start sum in refl in
+      let z' : enough N n - 0 ≡ enough N n = omega arith in
+      rw (rested w r, rested-names w (root ∷ []) r, z, z')
+
+module _ {F : Form} {N n : ℕ} {m : List ℕ} {root : ℕ} (P : Rooted N n m root) where
+  keeps : {k : ℕ} {w : Walk} {names : List ℕ} → After F byDart N n m root k w names → Kept F byDart N n m root k w names
+  keeps a = after-kept F byDart N n m root (P .ranks) (P .small) (P .dart) (P .valid) a
 
   -- fewer steps are done than would be enough
-  after-less : {k : ℕ} {w : Walk} {names : List ℕ} → After byDart N n m root k w names → k < enough N n
+  after-less : {k : ℕ} {w : Walk} {names : List ℕ} → After F byDart N n m root k w names → k < enough N n
   unfolding enough steps
   after-less {k} {w} {names} a =
       let K = keeps a in
@@ -134,45 +216,127 @@ module _ {N n : ℕ} {m : List ℕ} {root : ℕ} (P : Rooted N n m root) where
       omega arith
 
   -- the names at the end are those of the whole walk
-  after-names : {k : ℕ} {w : Walk} {names : List ℕ} → After byDart N n m root k w names → write (enough N n - k) m w names .names ≡ namesOf byDart N n m root
+  after-names : {k : ℕ} {w : Walk} {names : List ℕ} → After F byDart N n m root k w names
+      → write (enough N n - k) m w names .names ≡ namesOf F byDart N n m root
   unfolding namesOf walked prepend
   after-names After.begin = let z : enough N n - 0 ≡ enough N n = omega arith in rw z
   after-names (After.next {k} {w} {w'} {names} {names'} {out} a e) =
       sym (ap (λ (x : Walked). x .names) (ahead-next N n m k w w' names names' out (after-less a) e)) ∙ after-names a
 
-  -- the start: all is still to do
-  unfoldable pub walking-starts : Walking N n m root 1 (0 ∷ 0 ∷ 0 ∷ 0 ∷ 0 ∷ 0 ∷ 0 ∷ [])
-  unfolding start
-  walking-starts = record { done = 0; walk = start byDart N n []; names = root ∷ []; after = After.begin; count = refl; positions = refl }
+  -- at a head no body is due, so that the walk is the definition's own
+  rests : {w : Walk} {names : List ℕ} → Came F N n m root w names → due w ≡ false → After F byDart N n m root (steps w) w names
+  rests {w} {names} C r = rw (rested w r, rested-names w names r) at (C .after)
 
-  pub starts-ahead : ahead walking-starts ≡ walked byDart N n m root
-  unfolding ahead walking-starts walked
-  starts-ahead = let z : enough N n - 0 ≡ enough N n = omega arith in rw z
+  steps-came : {w w' : Walk} {names names' : List ℕ} {out : List Symbol} → After F byDart N n m root (steps w) w names
+      → writeAt m w names (head w) ≡ Written.wrote out w' names' → steps w' ≡ suc (steps w)
+  steps-came {w} {w'} {names} {names'} {out} a e =
+      sym (resume-steps w') ∙ keeps (After.next {w' = resume w'} {names' = resumeNames w' names'} {out = out} a (step-resumed m w names e)) .done
 
-  module _ {c : ℕ} {ps : List ℕ} (G : Walking N n m root c ps) where
-    pub kept : Kept byDart N n m root (G .done) (G .walk) (G .names)
-    kept = keeps (G .after)
+  came : {w : Walk} {names : List ℕ} → Along F N n m root w names → Came F N n m root w names
+  came Along.begin =
+      let w = start F byDart N n [] in
+      let r = start-rests F byDart N n [] in
+      let z : steps w ≡ 0 = unfold steps start sum in refl in
+      record {
+        inv = start-inv F byDart N n [] (omega (arith, P .dart)) (P .small) (P .ranks);
+        after = rw (rested w r, rested-names w (root ∷ []) r, z) After.begin;
+      }
+  came (Along.step {w} {w'} {names} {names'} {out} a e) = go (came a) (head w) refl e
+    where
+      go : Came F N n m root w names → (h : Head) → head w ≡ h → writeAt m w names (head w) ≡ Written.wrote out w' names' → Came F N n m root w' names'
+      go C Head.none h e =
+          let y : Written.finished ≡ Written.wrote out w' names' = unfold writeAt in (rw h at e) in
+          let z : _≡_ {A = ℕ} 0 1 = cc y in
+          absurd (omega arith)
+      go C (Head.at j b) h e =
+          let x = rests C (headed-rests w j b h) in
+          let K = keeps x in
+          record {
+            inv = stepped-inv m root w names (C .inv) (K .named) (rw (K .layout, K .dim, K .darts) (P .valid)) j b h e;
+            after = rw (steps-came x e) (After.next x (step-resumed m w names e));
+          }
+  came (Along.body {w} {names} a d) =
+      let C = came a in
+      let r = resume-rests w (C .inv .shape) in
+      record {
+        inv = resume-inv w (C .inv);
+        after = rw (rested (resume w) r, rested-names (resume w) (resumeNames w names) r, resume-steps w) (C .after);
+      }
 
-    pub names-le : length (G .names) ≤ n
-    names-le = omega (arith, kept .named .len, kept .inv .shape .within, kept .darts)
+  module _ {c : ℕ} {ps : List ℕ} (G : Walking F N n m root c ps) where
+    -- what holds of it: always, and where no body is due
+    pub inv-now : Inv (G .walk)
+    inv-now = came (G .along) .inv
+
+    pub kept-resumed : Kept F byDart N n m root (steps (G .walk)) (resume (G .walk)) (resumeNames (G .walk) (G .names))
+    kept-resumed = keeps (came (G .along) .after)
+
+    grows : Grows (G .walk) (resume (G .walk))
+    grows = resume-grows (G .walk)
+
+    pub dim-now : G .walk .dim ≡ N
+    dim-now = sym (grows .dim) ∙ kept-resumed .dim
+
+    pub darts-now : G .walk .darts ≡ n
+    darts-now = sym (grows .darts) ∙ kept-resumed .darts
+
+    pub form-now : G .walk .form ≡ F
+    form-now = sym (grows .form) ∙ kept-resumed .form
+
+    pub kept : due (G .walk) ≡ false → Kept F byDart N n m root (steps (G .walk)) (G .walk) (G .names)
+    kept r = keeps (rests (came (G .along)) r)
 
     pub count-names : c ≡ length (G .names)
-    count-names = G .count ∙ sym (kept .named .len)
+    count-names = G .count ∙ sym (resumed-length (G .walk) (G .names) (kept-resumed .named .len))
 
-    pub name-low : (b : ℕ) → b < length (G .names) → name (G .names) b < n
-    name-low b h = rw (kept .darts) at (kept .named .low b (omega (arith, kept .named .len)))
+    pub names-le : length (G .names) ≤ n
+    names-le = omega (arith, count-names, G .count, inv-now .shape .within, darts-now)
 
-    pub ends-named : ahead G .names ≡ namesOf byDart N n m root
+    pub ends-named : ahead G .names ≡ namesOf F byDart N n m root
     unfolding ahead
-    ends-named = after-names (G .after)
+    ends-named = after-names (came (G .along) .after)
 
-    -- the end: where all queues are empty nothing is left to do
-    pub walking-over : (j : ℕ) → Emptied c ps j → N < j → ahead G ≡ record { symbols = []; names = G .names }
+    -- past the last rank all queues are empty
+    module _ (j : ℕ) (E : Emptied c ps j) (h : N < j) where
+      pub head-over : head (G .walk) ≡ Head.none
+      head-over = head-past (G .walk) (inv-now .shape) j (rw (G .count, G .positions) at E) (omega (arith, dim-now))
+
+      -- whether a body is due there is told by the numbers
+      pub due-over : due (G .walk) ≡ bodyDue F N n j c
+      due-over =
+          due-past (G .walk) (inv-now .shape) j (rw (G .count, G .positions) at E) (omega (arith, dim-now))
+          ∙ rw (form-now, dim-now, darts-now, ← G .count)
+
+      -- the end: nothing is left to do
+      pub walking-over : due (G .walk) ≡ false → ahead G ≡ record { symbols = []; names = G .names }
+      unfolding ahead
+      walking-over r =
+          let f : enough N n - steps (G .walk) ≡ suc (enough N n - suc (steps (G .walk))) = omega (arith, after-less (came (G .along) .after)) in
+          rw (rested (G .walk) r, rested-names (G .walk) (G .names) r, f) (write-end (enough N n - suc (steps (G .walk))) m (G .walk) (G .names) head-over)
+
+    -- a body is begun, and the walk still does the same
+    pub record Begins : Type 0 where
+      pub next : Walking F N n m root (c + 1) ps
+      pub named : next .names ≡ G .names ++ (leastUnnumbered n (G .names) ∷ [])
+      pub bodies : next .walk .bodies ≡ G .walk .bodies + 1
+      pub same : ahead next ≡ ahead G
+
+    pub walking-begins : due (G .walk) ≡ true → Begins
     unfolding ahead
-    walking-over j E h =
-        let o = head-past (G .walk) (kept .inv .shape) j (rw (G .count, G .positions) at E) (omega (arith, kept .dim)) in
-        let f : enough N n - G .done ≡ suc (enough N n - suc (G .done)) = omega (arith, after-less (G .after)) in
-        ap (λ (x : ℕ). write x m (G .walk) (G .names)) f ∙ write-end (enough N n - suc (G .done)) m (G .walk) (G .names) o
+    walking-begins d =
+        let w = G .walk in
+        let r = resume-rests w (inv-now .shape) in record {
+          next = record {
+            walk = resume w;
+            names = resumeNames w (G .names);
+            along = Along.body (G .along) d;
+            count = rw (begun w d) (unfold oneMore fresh in omega (arith, G .count));
+            positions = rw (begun w d) (unfold oneMore fresh in G .positions);
+          };
+          named = rw (← darts-now) (begun-names w (G .names) d);
+          bodies = rw (begun w d) (unfold oneMore fresh in omega arith);
+          same = rw (rested (resume w) r, rested-names (resume w) (resumeNames w (G .names)) r, resume-steps w);
+        }
 
     -- a turn at the lowest queue that isn't empty
     module _ (j : ℕ) (e : Lowest N c ps j) where
@@ -184,21 +348,30 @@ module _ {N n : ℕ} {m : List ℕ} {root : ℕ} (P : Rooted N n m root) where
       walking-head =
           let E : Emptied (G .walk .count) (G .walk .positions) j = rw (G .count, G .positions) at (e .lower) in
           let l : getD (G .walk .positions) j 0 < G .walk .count = rw (G .count, G .positions) at (e .some) in
-          rw (G .positions) (head-lowest (G .walk) (kept .inv .shape) j E (omega (arith, e .ranked, kept .dim)) l)
+          rw (G .positions) (head-lowest (G .walk) (inv-now .shape) j E (omega (arith, e .ranked, dim-now)) l)
+
+      walking-rests : due (G .walk) ≡ false
+      walking-rests = headed-rests (G .walk) j (getD ps j 0) walking-head
+
+      pub kept-turn : Kept F byDart N n m root (steps (G .walk)) (G .walk) (G .names)
+      kept-turn = kept walking-rests
+
+      pub name-low : (b : ℕ) → b < length (G .names) → name (G .names) b < n
+      name-low b h = rw darts-now at (kept-turn .named .low b (omega (arith, kept-turn .named .len)))
 
       -- it is numbered, and at most n are
       pub walking-heads : (getD ps j 0 < length (G .names)) × (getD ps j 0 < n) × (c ≤ n)
       walking-heads = (omega (arith, e .some, count-names), omega (arith, e .some, count-names, names-le), omega (arith, count-names, names-le))
 
       -- each turn brings the walk nearer to its end
-      pub walking-less : enough N n - sum (positionsAfter j ps) < enough N n - sum ps
+      pub walking-less : {ps' : List ℕ} → ps' ≡ positionsAfter j ps → enough N n - sum ps' < enough N n - sum ps
       unfolding steps
-      walking-less =
-          let d : sum ps ≡ G .done = rw (G .positions) (kept .done) in
-          let l : j < length ps = omega (arith, ap length (G .positions), kept .inv .shape .seven, kept .inv .shape .ranks, kept .dim, e .ranked) in
+      walking-less {ps'} ep =
+          let d : sum ps ≡ steps (G .walk) = rw (G .positions) in
+          let l : j < length ps = omega (arith, ap length (G .positions), inv-now .shape .seven, inv-now .shape .ranks, dim-now, e .ranked) in
           let q : getD ps j 0 + 1 ≡ suc (getD ps j 0) = omega arith in
-          let r : sum (positionsAfter j ps) ≡ suc (sum ps) = rw q (sum-set ps j l) in
-          omega (arith, after-less (G .after))
+          let r : sum ps' ≡ suc (sum ps) = rw (ep, q) (sum-set ps j l) in
+          omega (arith, after-less (came (G .along) .after))
 
       -- the head's dart and its own number, in any room that agrees with the names
       pub walking-own : (room : List ℕ) → Agrees n (G .names) room
@@ -207,42 +380,47 @@ module _ {N n : ℕ} {m : List ℕ} {root : ℕ} (P : Rooted N n m root) where
       walking-own room R =
           let l = walking-heads .0 in
           let d = R .dart (getD ps j 0) l in
-          let q = kept .named .back (getD ps j 0) (omega (arith, kept .named .len)) in
+          let q = kept-turn .named .back (getD ps j 0) (omega (arith, kept-turn .named .len)) in
           (d, rw d (name-low (getD ps j 0) l), rw d (R .numbered (name (G .names) (getD ps j 0)) (omega arith) ∙ q))
 
       -- the step
       pub walking-stepped : WalkStep m (G .walk) (G .names) j partner-named
       unfolding partner-named other
       walking-stepped =
-          rw (← kept .layout, ← kept .dim, ← kept .darts)
-          (stepped m root (G .walk) (G .names) (kept .inv) (kept .named) (rw (kept .layout, kept .dim, kept .darts) (P .valid)) j (getD ps j 0) walking-head)
+          let K = kept-turn in
+          rw (← K .layout, ← K .dim, ← K .darts)
+          (stepped m root (G .walk) (G .names) (K .inv) (K .named) (rw (K .layout, K .dim, K .darts) (P .valid)) j (getD ps j 0) walking-head)
 
       -- where it leads, for any way to tell it, and what it does first
       pub record Onward (c' : ℕ) (out : List Symbol) (names' : List ℕ) : Type 0 where
-        pub next : Walking N n m root c' (positionsAfter j ps)
+        pub next : Walking F N n m root c' (positionsAfter j ps)
         pub named : next .names ≡ names'
+        pub bodies : next .walk .bodies ≡ G .walk .bodies
         pub first : ahead G ≡ prepend out (ahead next)
 
-      pub walking-on : {out : List Symbol} {w' : Walk} {names' : List ℕ} → writeStep m (G .walk) (G .names) ≡ Written.wrote out w' names'
+      pub walking-on : {out : List Symbol} {w' : Walk} {names' : List ℕ} → writeAt m (G .walk) (G .names) (head (G .walk)) ≡ Written.wrote out w' names'
           → (c' : ℕ) → c' ≡ w' .count → Onward c' out names'
       unfolding ahead
       walking-on {out} {w'} {names'} s c' ec =
+          let w = G .walk in
           let S = walking-stepped in
-          let f = sym (S .step) ∙ s in
-          let q : S .walk ≡ w' = cc f in
+          let q = same-walk S s in
+          let x = rests (came (G .along)) walking-rests in
           record {
             next = record {
-              done = suc (G .done);
               walk = w';
               names = names';
-              after = After.next (G .after) s;
+              along = Along.step (G .along) s;
               count = ec;
-              positions = ap (positionsAfter j) (G .positions) ∙ (sym (S .positions) ∙ ap (λ (x : Walk). x .positions) q);
+              positions = ap (positionsAfter j) (G .positions) ∙ (sym (S .positions) ∙ ap (λ (y : Walk). y .positions) q);
             };
             named = refl;
-            first = ahead-next N n m (G .done) (G .walk) w' (G .names) names' out (after-less (G .after)) s;
+            bodies = sym (ap (λ (y : Walk). y .bodies) q) ∙ S .bodies;
+            first =
+                rw (rested w walking-rests, rested-names w (G .names) walking-rests, steps-came x s)
+                (ahead-next N n m (steps w) w (resume w') (G .names) (resumeNames w' names') out (after-less x) (step-resumed m w (G .names) s));
           }
 
 -- a step at Lj that leaves the count leaves the queues below empty
-pub emptied-after : (c c' : ℕ) (ps : List ℕ) (j : ℕ) → Emptied c ps j → c' ≡ c → Emptied c' (positionsAfter j ps) j
-emptied-after c c' ps j E e = rw e (emptied-passed c ps j (getD ps j 0 + 1) E)
+pub emptied-after : {c c' : ℕ} {ps ps' : List ℕ} (j : ℕ) → Emptied c ps j → ps' ≡ positionsAfter j ps → c' ≡ c → Emptied c' ps' j
+emptied-after {c} {c'} {ps} {ps'} j E q e = rw (e, q) (emptied-passed c ps j (getD ps j 0 + 1) E)

@@ -51,7 +51,8 @@ returns : tie.Need-returns
 unfolding headed dimOf
 returns c =
     let r = c .before .refused .ensures in
-    fetches-at _ _ _ _ (c .asking .ensures) (begin-dim _ _ _ _ _ _ (r .0) (r .1) (unfit-dim _ (inl (c .before .before .if1 .taken)))) (refused-none _ 1 0 (r .0))
+    fetches-at _ _ _ _ (c .asking .ensures)
+    (begin-dim _ _ _ _ _ _ (r .0) (r .1) (unfit-dim _ (inl (c .before .before .if1 .taken)))) (refused-none _ 1 0 (r .0))
 
 refused-requires-2 : tie.Need-refused-requires-2
 refused-requires-2 c κs = search needs
@@ -63,7 +64,8 @@ returns-2 : tie.Need-returns-2
 unfolding headed dimOf
 returns-2 c =
     let r = c .before .refused2 .ensures in
-    fetches-at _ _ _ _ (c .asking2 .ensures) (begin-dim _ _ _ _ _ _ (r .0) (r .1) (unfit-dim _ (inr (c .before .before .if2 .taken)))) (refused-none _ 1 0 (r .0))
+    fetches-at _ _ _ _ (c .asking2 .ensures)
+    (begin-dim _ _ _ _ _ _ (r .0) (r .1) (unfit-dim _ (inr (c .before .before .if2 .taken)))) (refused-none _ 1 0 (r .0))
 
 add-size : tie.Need-add-size
 add-size c = search needs
@@ -108,7 +110,8 @@ returns-4 c =
     let e = o .before in
     let r = g .go-on .ensures in
     record {
-      left = begin-walk _ _ _ _ _ _ _ _ _ _ (begin-blank _ _ _ _ (b .blank .ensures)) _ (e .before .before .form-of .ensures) (r .left) (fresh-hand _ _) (dims e) (darts e)
+      left = begin-walk _ _ _ _ _ _ _ _ _ _ (begin-blank _ _ _ _ (b .blank .ensures)) _ (e .before .before .form-of .ensures) (r .left)
+          (fresh-hand _ _) (dims e) (darts e)
           (rw (size-is _ _) at (o .if3 .left));
       fetch = r .fetch;
     }

@@ -4,7 +4,7 @@ use mathlib.Core.Path.{refl}
 use native.Mathlib.Omega.{arith}
 use borrow.Author.Needs.{needs}
 use Rattle.flood.proofs.Orbits.{orbit-inside, flooded-but, flooded-on}
-use Rattle.report.proofs.Spans.{link-below, head-below, head-class, spun-old, spun-new}
+use Rattle.report.proofs.Spans.{spun-few, link-below, head-below, head-class, spun-old, spun-new}
 use Rattle.report.proofs.span_step.Statement.{statement}
 use Rattle.report.proofs.span_step.Tie as tie
 
@@ -40,7 +40,7 @@ returns : tie.Need-returns
 returns c =
     let k = c .before .before in
     let p = entry (k .before) .pre in
-    (spun-old (p .1) (p .2) (p .3) _ (k .before .queued .ensures) _ (k .link-at .ensures) (c .if1 .taken), refl)
+    (spun-old (p .1) (p .2) (p .3) _ (k .before .queued .ensures) _ (k .link-at .ensures) (c .if1 .taken), refl, refl)
 
 cast-class : tie.Need-cast-class
 cast-class c = search needs
@@ -71,7 +71,9 @@ flood-requires c κs =
     (p .0, p .3 .queue, rw (c .before .all-but .ensures) (omega arith), orbit-inside (p .1) h, omega arith)
 
 add-t22 : tie.Need-add-t22
-add-t22 c = search needs
+add-t22 c =
+    let p = entry (c .before .before .before .before .before .before .before .before .before .before) .pre in
+    omega (arith, spun-few (p .1) (p .3), p .0 .darts .1)
 
 same-length-2 : tie.Need-same-length-2
 same-length-2 c = search needs
@@ -88,7 +90,7 @@ returns-2 c =
     let F = flooded-but (s .args .dim) (a .all-but .ensures) (c .before .before .before .flood .ensures) in
     let h = link-below (p .1) ek (omega arith) (head-below (p .1) (p .2) (p .3) _ eq) in
     let past = flooded-on (p .3 .queue) h (omega arith) F .past in
-    (spun-new (p .1) (p .2) (p .3) _ eq _ ek _ u refl F, past)
+    (spun-new (p .1) (p .2) (p .3) _ eq _ ek _ u refl F, refl, past)
 
 pub span-step-spec : {M : Type 1} → statement M
 span-step-spec =
