@@ -9,26 +9,31 @@ use lib.ListN.{length}
 use lib.Dec.{eqb, ltb}
 use borrow.Author.Tests.{ne-eqb, le-leb, lt-leb, eqb-true, eqb-false, ltb-false}
 use Rattle.shapes.specs.declared.FacesAnswer.{FacesAnswer}
+use Rattle.rules.specs.declared.Form.the-variants.{One}
 use Rattle.rules.specs.Map.{Layout, byDart, dimFits, dartsFit}
+use Rattle.rules.specs.Refusals.{among, ofBodies}
 use Rattle.rules.specs.Check.{Verdict, refuseIf, verdict, workAfter, checkAnswerOf}
 use Rattle.rules.specs.declared.CheckAnswer.{CheckAnswer}
 use Rattle.shapes.specs.Text.{file}
 use Rattle.shapes.specs.Faces.{refusal, readVerdict, cornersOf, mapOn, dartsOf, facesAnswerOf, tablesAfter, facesAnswer, facesTables, facesWork}
+use Rattle.shapes.proofs.Posted.{never-alone}
 use Rattle.faces.specs.Parts.{misfitOf, Posts}
 
 -- refused by another number than 9: nothing is changed
 pub refused-posts : (text t work : List ℕ) (nr p : ℕ) (r : FacesAnswer) → r ≡ refusal nr p → nr ≢ 9
     → readVerdict byDart (file text) t (length work) ≡ Verdict.refused nr p → Posts text t work r t work
-unfolding refusal facesAnswer facesTables facesWork facesAnswerOf tablesAfter workAfter
-refused-posts text t work nr p r er h e = record { answer = er ∙ rw e; tables = rw (e, ne-eqb nr 9 h); room = rw (e, ne-eqb nr 9 h) }
+unfolding refusal facesAnswer facesTables facesWork facesAnswerOf tablesAfter workAfter ofBodies among
+refused-posts text t work nr p r er h e =
+    let f = ne-eqb nr 30 (never-alone byDart text t (length work) nr p e) in
+    record { answer = er ∙ rw e; tables = rw (e, ne-eqb nr 9 h); room = rw (e, ne-eqb nr 9 h, f) }
 
 -- the check's own refusals of sizes, of a map of dimension 2 from root 0
-pub too-many : (Y : Layout) (n : ℕ) (t : List ℕ) (room : ℕ) → 4096 < n → verdict Y 2 n 0 t room ≡ Verdict.refused 2 0
+pub too-many : (Y : Layout) (n : ℕ) (t : List ℕ) (room : ℕ) → 4096 < n → verdict One Y 2 n 0 t room ≡ Verdict.refused 2 0
 unfolding verdict refuseIf dimFits dartsFit
 too-many Y n t room h = rw (le-leb 1 n (omega arith), lt-leb n 4096 h)
 
 pub misfit-verdict : (Y : Layout) (c : ℕ) (t : List ℕ) (room m : ℕ) → c ≤ 2048 → m ≡ misfitOf c (length t) room → m ≢ 0
-    → verdict Y 2 (2 * c) 0 t room ≡ Verdict.refused m 0
+    → verdict One Y 2 (2 * c) 0 t room ≡ Verdict.refused m 0
 unfolding verdict refuseIf dimFits dartsFit misfitOf
 misfit-verdict Y c t room m h e s = go (eqb c 0) (ltb (length t) (6 * c)) (ltb room (4 * c)) refl refl refl
   where
@@ -38,7 +43,7 @@ misfit-verdict Y c t room m h e s = go (eqb c 0) (ltb (length t) (6 * c)) (ltb r
     numbers : 2 * (2 * c) ≡ 4 * c
     numbers = omega arith
 
-    go : (a b d : Bool) → eqb c 0 ≡ a → ltb (length t) (6 * c) ≡ b → ltb room (4 * c) ≡ d → verdict Y 2 (2 * c) 0 t room ≡ Verdict.refused m 0
+    go : (a b d : Bool) → eqb c 0 ≡ a → ltb (length t) (6 * c) ≡ b → ltb room (4 * c) ≡ d → verdict One Y 2 (2 * c) 0 t room ≡ Verdict.refused m 0
     go true b d x y z =
         let w : c ≡ 0 = eqb-true c 0 x in
         let k : m ≡ 2 = e ∙ rw x in
@@ -101,7 +106,7 @@ pub data Ends : Verdict → Type 0 where
 
 pub built-posts : (text t work : List ℕ) (r : FacesAnswer) (t' work' : List ℕ) (v : Verdict) → readVerdict byDart (file text) t (length work) ≡ v → Ends v
     → r ≡ facesAnswerOf (dartsOf (cornersOf (file text))) v → t' ≡ mapOn byDart (cornersOf (file text)) t
-    → work' ≡ workAfter byDart 2 (dartsOf (cornersOf (file text))) 0 (mapOn byDart (cornersOf (file text)) t) work v → Posts text t work r t' work'
+    → work' ≡ workAfter One byDart 2 (dartsOf (cornersOf (file text))) 0 (mapOn byDart (cornersOf (file text)) t) work v → Posts text t work r t' work'
 unfolding facesAnswer facesTables facesWork tablesAfter
 built-posts text t work r t' work' v e fine a b c = record { answer = a ∙ rw e; tables = b ∙ rw e; room = c ∙ rw e }
 built-posts text t work r t' work' v e (unreached d) a b c = record { answer = a ∙ rw e; tables = b ∙ rw e; room = c ∙ rw e }

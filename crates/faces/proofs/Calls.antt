@@ -7,6 +7,7 @@ use mathlib.Core.Bool.{Bool}
 use native.Mathlib.Omega.{arith}
 use lib.ListN.{length}
 use Rattle.shapes.specs.declared.FacesAnswer.{FacesAnswer}
+use Rattle.rules.specs.declared.Form.the-variants.{One}
 use Rattle.rules.specs.Lists.{countBelow, first}
 use Rattle.rules.specs.Map.{byDart, size, Limits}
 use Rattle.rules.specs.Check.{Verdict, verdict, checkWork}
@@ -79,7 +80,7 @@ module _ {text : List ℕ} {p : Plan} (planned : Planned text p) where
             let cs = allCorners 0 (filed .what .faces) in
             let long : length (mapOn byDart cs t) ≡ length t = on-length byDart cs t in
             refused-posts text t work m 0 r er h9 (clean .verdict byDart t (length work)
-            ∙ (ap (λ (n : ℕ). verdict byDart 2 n 0 (mapOn byDart cs t) (length work)) darts
+            ∙ (ap (λ (n : ℕ). verdict One byDart 2 n 0 (mapOn byDart cs t) (length work)) darts
             ∙ misfit-verdict byDart (p .corners) (mapOn byDart cs t) (length work) m few (em ∙ rw (← long)) h))
 
         module _ {twins owns lefts : List ℕ} (kept : Kept text (begun (p .start)) twins owns lefts (p .corners)) where
@@ -101,8 +102,8 @@ module _ {text : List ℕ} {p : Plan} (planned : Planned text p) where
               (omega (arith, clean .corners)) (clean .twice) all-kept)
 
           pub post-built : (t work t' work' : List ℕ) (m : ℕ) (r : FacesAnswer) → m ≡ misfitOf (p .corners) (length t) (length work) → m ≡ 0
-              → Builds twins owns lefts (p .corners) t t' → r ≡ facesAnswerOf (2 * p .corners) (verdict byDart 2 (2 * p .corners) 0 t' (length work))
-              → work' ≡ checkWork byDart 2 (2 * p .corners) 0 t' work → Posts text t work r t' work'
+              → Builds twins owns lefts (p .corners) t t' → r ≡ facesAnswerOf (2 * p .corners) (verdict One byDart 2 (2 * p .corners) 0 t' (length work))
+              → work' ≡ checkWork One byDart 2 (2 * p .corners) 0 t' work → Posts text t work r t' work'
           unfolding checkWork cornersOf
           post-built t work t' work' m r em e0 b er ew =
               let fs = filed .what .faces in
@@ -118,8 +119,8 @@ module _ {text : List ℕ} {p : Plan} (planned : Planned text p) where
                 darts = (omega (arith, darts, fit .some), omega (arith, darts));
                 room = rw (built-length byDart cs t room) room;
               } in
-              let v = verdict byDart 2 (dartsOf cs) 0 (mapOn byDart cs t) (length work) in
-              let same : verdict byDart 2 (2 * p .corners) 0 t' (length work) ≡ v = rw (z, darts) in
+              let v = verdict One byDart 2 (dartsOf cs) 0 (mapOn byDart cs t) (length work) in
+              let same : verdict One byDart 2 (2 * p .corners) 0 t' (length work) ≡ v = rw (z, darts) in
               built-posts text t work r t' work' v (clean .verdict byDart t (length work))
               (ends v (valid-verdict byDart 2 (dartsOf cs) (mapOn byDart cs t) (length work) limits (omega (arith, darts, fit .numbers)) valid))
               (er ∙ rw (q, same, darts)) (z ∙ rw q) (ew ∙ rw (q, same, z, darts))
@@ -141,8 +142,8 @@ module _ (p : Plan) (twins owns lefts t work : List ℕ) where
         record { is = λ text planned none kept. post-misfit planned none sound few t work m r em h small er }
 
     pub settles-built : (t' work' : List ℕ) (m : ℕ) (r : FacesAnswer) → m ≡ misfitOf (p .corners) (length t) (length work) → m ≡ 0
-        → Builds twins owns lefts (p .corners) t t' → r ≡ facesAnswerOf (2 * p .corners) (verdict byDart 2 (2 * p .corners) 0 t' (length work))
-        → work' ≡ checkWork byDart 2 (2 * p .corners) 0 t' work → Settles p twins owns lefts t work r t' work'
+        → Builds twins owns lefts (p .corners) t t' → r ≡ facesAnswerOf (2 * p .corners) (verdict One byDart 2 (2 * p .corners) 0 t' (length work))
+        → work' ≡ checkWork One byDart 2 (2 * p .corners) 0 t' work → Settles p twins owns lefts t work r t' work'
     settles-built t' work' m r em e0 b er ew =
         record { is = λ text planned none kept. post-built planned none sound few kept t work t' work' m r em e0 b er ew }
 

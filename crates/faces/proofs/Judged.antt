@@ -6,6 +6,7 @@ use mathlib.Core.List.{List, [], _∷_, _++_, append-nil}
 use mathlib.Core.Bool.{false}
 use native.Mathlib.Omega.{arith}
 use lib.ListN.{length}
+use Rattle.rules.specs.declared.Form.the-variants.{One}
 use Rattle.rules.specs.Lists.{countBelow, first}
 use Rattle.rules.specs.Map.{Layout}
 use Rattle.rules.specs.Check.{Verdict, verdict}
@@ -57,7 +58,7 @@ module _ (t : List ℕ) (p : Plan) (x : ℕ) (f : Filed t p x) where
   -- the verdict of a text that 26 does not refuse
   read-good : (Y : Layout) (tb : List ℕ) (room : ℕ)
       → readVerdict Y (file t) tb room
-      ≡ facesVerdict (f .what .vertices) (allCorners 0 fs) 0 0 fs (verdict Y 2 (dartsOf (allCorners 0 fs)) 0 (mapOn Y (allCorners 0 fs) tb) room)
+      ≡ facesVerdict (f .what .vertices) (allCorners 0 fs) 0 0 fs (verdict One Y 2 (dartsOf (allCorners 0 fs)) 0 (mapOn Y (allCorners 0 fs) tb) room)
   unfolding readVerdict
   read-good Y tb room = rw (f .is)
 
@@ -99,7 +100,7 @@ module _ (t : List ℕ) (p : Plan) (x : ℕ) (f : Filed t p x) where
       let kf = thirdUse (keyAt t (begun (p .start))) in
       let l : c < length (allCorners 0 (parts .passed)) = omega (arith, few) in
       let z : c - 0 ≡ c = omega arith in
-      let later = verdict Y 2 (dartsOf (allCorners 0 fs)) 0 (mapOn Y (allCorners 0 fs) tb) room in
+      let later = verdict One Y 2 (dartsOf (allCorners 0 fs)) 0 (mapOn Y (allCorners 0 fs) tb) room in
       let told = face-told t (parts .passed) (parts .rest) (f .what .vertices) (f .count) (p .start) x (parts .sound) small read c l in
       let r = third-face (f .what .vertices) (allCorners 0 fs) later 0 0 (parts .passed) (parts .rest) (parts .sound) c (omega arith) (omega arith)
       (thirds c h ∙ rw e (first-passes kf (p .corners) (rw e at h)))
@@ -119,9 +120,9 @@ module _ (t : List ℕ) (p : Plan) (x : ℕ) (f : Filed t p x) where
     passed-by : (Y : Layout) (tb : List ℕ) (room : ℕ)
         → readVerdict Y (file t) tb room
         ≡ facesVerdict (f .what .vertices) (allCorners 0 fs) (0 + length (parts .passed)) (0 + length (allCorners 0 (parts .passed))) (parts .rest)
-        (verdict Y 2 (dartsOf (allCorners 0 fs)) 0 (mapOn Y (allCorners 0 fs) tb) room)
+        (verdict One Y 2 (dartsOf (allCorners 0 fs)) 0 (mapOn Y (allCorners 0 fs) tb) room)
     passed-by Y tb room =
-        let later = verdict Y 2 (dartsOf (allCorners 0 fs)) 0 (mapOn Y (allCorners 0 fs) tb) room in
+        let later = verdict One Y 2 (dartsOf (allCorners 0 fs)) 0 (mapOn Y (allCorners 0 fs) tb) room in
         read-good Y tb room
         ∙ (ap (λ (l : List (List ℕ)). facesVerdict (f .what .vertices) (allCorners 0 fs) 0 0 l later) (parts .all)
         ∙ pass-faces (f .what .vertices) (allCorners 0 fs) later 0 0 (parts .passed) (parts .rest) (parts .sound)
@@ -138,7 +139,7 @@ module _ (t : List ℕ) (p : Plan) (x : ℕ) (f : Filed t p x) where
         go : (l : List (List ℕ)) → Ending (f .what .vertices) 0 0 s (parts .passed) l
             → readVerdict Y (file t) tb room
             ≡ facesVerdict (f .what .vertices) (allCorners 0 fs) (0 + length (parts .passed)) (0 + length (allCorners 0 (parts .passed))) l
-            (verdict Y 2 (dartsOf (allCorners 0 fs)) 0 (mapOn Y (allCorners 0 fs) tb) room)
+            (verdict One Y 2 (dartsOf (allCorners 0 fs)) 0 (mapOn Y (allCorners 0 fs) tb) room)
             → readVerdict Y (file t) tb room ≡ Verdict.refused (p .number) (p .face)
         go [] (whole e) q = absurd (h (ap (λ (b : Plan). b .number) (f .says) ∙ ap (λ (b : Flaw). b .number) e))
         go (g ∷ rest) (flawed g' rest' nr w e) q =
@@ -152,7 +153,7 @@ module _ (t : List ℕ) (p : Plan) (x : ℕ) (f : Filed t p x) where
       pub corners : length (allCorners 0 fs) ≡ p .corners
       pub twice : (c : ℕ) → c < length (allCorners 0 fs) → third (allCorners 0 fs) c ≡ false
       pub verdict : (Y : Layout) (tb : List ℕ) (room : ℕ) → readVerdict Y (file t) tb room
-          ≡ verdict Y 2 (dartsOf (allCorners 0 fs)) 0 (mapOn Y (allCorners 0 fs) tb) room
+          ≡ verdict One Y 2 (dartsOf (allCorners 0 fs)) 0 (mapOn Y (allCorners 0 fs) tb) room
 
     pub judged-clean : p .number ≡ 0 → Clean
     unfolding planOf facesVerdict
@@ -164,7 +165,7 @@ module _ (t : List ℕ) (p : Plan) (x : ℕ) (f : Filed t p x) where
         go : (l : List (List ℕ)) → Ending (f .what .vertices) 0 0 s (parts .passed) l → fs ≡ parts .passed ++ l
             → ((Y : Layout) (tb : List ℕ) (room : ℕ) → readVerdict Y (file t) tb room
             ≡ facesVerdict (f .what .vertices) (allCorners 0 fs) (0 + length (parts .passed)) (0 + length (allCorners 0 (parts .passed))) l
-            (verdict Y 2 (dartsOf (allCorners 0 fs)) 0 (mapOn Y (allCorners 0 fs) tb) room))
+            (verdict One Y 2 (dartsOf (allCorners 0 fs)) 0 (mapOn Y (allCorners 0 fs) tb) room))
             → Clean
         go [] (whole e) a q =
             let z : fs ≡ parts .passed = a ∙ append-nil (parts .passed) in

@@ -1,10 +1,12 @@
 // Reading face files (OFF text) into a map of dimension 2: 26 to 29, then 2, 3, 4 and the check of the map.
+use rules::Form;
 use shapes::FacesAnswer;
 use survey::Outline;
 use survey::Plan;
 ghost use mathlib.Core.Path.{_≡_};
 ghost use Prim.Native.Nat.{_*_, _≤_, _<_};
 ghost use lib.ListN.{length};
+ghost use Rattle.rules.specs.declared.Form.the-variants.{One};
 ghost use Rattle.rules.specs.Map.{byDart};
 ghost use Rattle.rules.specs.Check.{verdict, checkWork};
 ghost use Rattle.shapes.specs.Faces.{facesAnswerOf, facesAnswer, facesTables, facesWork};
@@ -47,10 +49,10 @@ fn too_many(text: &[u8], p: Plan) -> FacesAnswer
 fn checked(corners: usize, tables: &[u16], work: &mut [u16]) -> FacesAnswer
     requires { ⌜ corners ≤ 2048 ⌝ }
     ensures { λ r. ⌜ (r ≡ facesAnswerOf (2 * corners)
-        (verdict byDart 2 (2 * corners) 0 (now (tables .entry)) (length (now (work .entry)))))
-        × (now (work .exit) ≡ checkWork byDart 2 (2 * corners) 0 (now (tables .entry)) (now (work .entry))) ⌝ }
+        (verdict One byDart 2 (2 * corners) 0 (now (tables .entry)) (length (now (work .entry)))))
+        × (now (work .exit) ≡ checkWork One byDart 2 (2 * corners) 0 (now (tables .entry)) (now (work .entry))) ⌝ }
 {
-    let a = checker::check(2, 2 * corners, 0, tables, work);
+    let a = checker::check(Form::One, 2, 2 * corners, 0, tables, work);
     if a.number != 0 {
         return shapes::refused(a.number, a.place as u64);
     }

@@ -1,5 +1,5 @@
--- Document 02, E6, of several bodies: no w joins two, the bodies begun are the map's bodies, and the report says orientable exactly if every body is.
--- Rests on Cells, Causes and Sound.
+-- Document 02, E6, of several bodies: no w joins two, and the report says orientable exactly if every body is. That the bodies begun are the map's is in Sound.
+-- Rests on Cells, Causes and Runs.
 use Prim.Native.Nat.{ℕ, _≤_, _<_}
 use mathlib.Core.Path.{_≡_, sym, _∙_}
 use mathlib.Core.Logic.{_≢_}

@@ -320,6 +320,15 @@ module _ (Y : Layout) (text t : List ℕ) (room : ℕ) where
   post-number (work m p e h) = inr (inl (omega arith, omega arith))
   post-number (unreachable m p e d L) = inr (inr refl)
 
+  -- so 30 is never given
+  pub never-alone : (nr p : ℕ) → readVerdict Y (file text) t room ≡ Verdict.refused nr p → nr ≢ 30
+  never-alone nr p v z = go (post-number (post-case nr p v .0))
+    where
+      go : ((26 ≤ nr) × (nr ≤ 29)) ⊎ (((2 ≤ nr) × (nr ≤ 4)) ⊎ (nr ≡ 9)) → ⊥
+      go (inl (l, h)) = omega arith
+      go (inr (inl (l, h))) = omega arith
+      go (inr (inr e)) = omega arith
+
   -- so the map is never refused as one that was built wrongly
   pub never-misbuilt : (nr p : ℕ) → readVerdict Y (file text) t room ≡ Verdict.refused nr p → (nr ≢ 1) × (nr ≢ 5) × (nr ≢ 6) × (nr ≢ 7) × (nr ≢ 8)
   never-misbuilt nr p v = go (post-number (post-case nr p v .0))

@@ -26,7 +26,7 @@ use Rattle.shapes.specs.Faces.{Corner, allCorners, facesVerdict, dartsOf
 use Rattle.shapes.specs.Faces.{refusal, facesAnswer, facesTables, facesWork}
 use Rattle.shapes.proofs.Built.{built-is, laid-long}
 use Rattle.shapes.proofs.FaceCases.{FacesDecided, faces-decided, case-number}
-use Rattle.shapes.proofs.Posted.{on-length, cornersIn, dartsIn, tablesIn, post-case, post-number}
+use Rattle.shapes.proofs.Posted.{on-length, cornersIn, dartsIn, tablesIn, post-case, post-number, never-alone}
 
 -- a verdict is told by the check's answer
 told : (v w : Verdict) → ((nr p : ℕ) → v ≡ Verdict.refused nr p → nr ≢ 0) → ((nr p : ℕ) → w ≡ Verdict.refused nr p → nr ≢ 0)
@@ -177,12 +177,7 @@ others-leave Y text t work = go (readVerdict Y (file text) t (length work)) refl
         → (tablesAfter Y cs t v ≡ t) × (workAfter One Y 2 (dartsOf cs) 0 (mapOn Y cs t) work v ≡ work)
     go Verdict.fine q n m = absurd (n refl)
     go (Verdict.refused nr p) q n m = unfold ofBodies among in
-        rw (ne-eqb nr 9 m, ne-eqb nr 30 (λ z. far z (post-number Y text t (length work) (post-case Y text t (length work) nr p q .0)))) (refl, refl)
-      where
-        far : nr ≡ 30 → ((26 ≤ nr) × (nr ≤ 29)) ⊎ (((2 ≤ nr) × (nr ≤ 4)) ⊎ (nr ≡ 9)) → ⊥
-        far z (inl (a, b)) = omega arith
-        far z (inr (inl (a, b))) = omega arith
-        far z (inr (inr a)) = omega arith
+        rw (ne-eqb nr 9 m, ne-eqb nr 30 (never-alone Y text t (length work) nr p q)) (refl, refl)
 
 -- after 0 and 9 the tables hold the map, and number, place and work room are those of its check from root 0
 pub as-checked : (Y : Layout) (text t work : List ℕ) (m : File) (p : ℕ) → file text ≡ good m p

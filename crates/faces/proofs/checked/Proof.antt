@@ -2,6 +2,7 @@
 use native.Mathlib.Omega.{arith}
 use Rattle.rules.specs.Check.{checkAnswer}
 use Rattle.rules.proofs.Check.{refused-some}
+use Rattle.rules.specs.declared.Form.the-variants.{One}
 use Rattle.rules.specs.Map.{byDart}
 use Rattle.faces.proofs.Answers.{check-fine, check-refused}
 use borrow.Author.Needs.{needs}
@@ -29,11 +30,11 @@ returns c =
     let k = c .before .before .before .before .before .before .check in
     (check-refused _ _ _ _ (k .ensures .0) (c .before .before .if1 .taken) (c .refused .ensures), k .ensures .1)
 
-mul-t5 : tie.Need-mul-t5
-mul-t5 c = omega arith
+mul-t6 : tie.Need-mul-t6
+mul-t6 c = omega arith
 
-cast-t10 : tie.Need-cast-t10
-cast-t10 c = omega arith
+cast-t11 : tie.Need-cast-t11
+cast-t11 c = omega arith
 
 same-length-2 : tie.Need-same-length-2
 same-length-2 c = search needs
@@ -42,7 +43,7 @@ returns-2 : tie.Need-returns-2
 unfolding checkAnswer
 returns-2 c =
     let k = c .before .before .before .before .check in
-    (check-fine _ _ _ (k .ensures .0) (λ nr p e. refused-some byDart _ _ _ _ _ nr p e) (c .if1 .left), k .ensures .1)
+    (check-fine _ _ _ (k .ensures .0) (λ nr p e. refused-some One byDart _ _ _ _ _ nr p e) (c .if1 .left), k .ensures .1)
 
 pub checked-spec : {M : Type 1} → statement M
 checked-spec =
@@ -54,7 +55,7 @@ checked-spec =
     refused-requires
     same-length
     returns
-    mul-t5
-    cast-t10
+    mul-t6
+    cast-t11
     same-length-2
     returns-2)

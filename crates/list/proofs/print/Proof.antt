@@ -31,7 +31,7 @@ put-requires c κs =
     let o = c .before .before .before .before .before .before in
     let a = o .before .before .before .args in
     let r = c .before .before .report .ensures in
-    (λ h. reported (a .a .dim) (a .a .darts) (a .tables .now) _ _ (r .0) h .limits, omega (arith, o .text-room .ensures))
+    (λ h. reported (a .form) (a .a .dim) (a .a .darts) (a .tables .now) _ _ (r .0) h .limits, omega (arith, o .text-room .ensures))
 
 array-share-prefix-out : tie.Need-array-share-prefix-out
 array-share-prefix-out c = search needs
