@@ -11,7 +11,7 @@ use borrow.Author.Tests.{eqb-false, eq-eqb, ne-eqb, lt-ltb, le-leb, lt-leb, le-l
 use Rattle.rules.specs.Lists.{scan, first, number}
 use Rattle.rules.specs.Map.{mark, link, Valid}
 use Rattle.rules.specs.Walk.{Walk, Head, head, Partner, partner, pass, join, fresh, tie, Symbol, apply}
-use Rattle.rules.specs.Walk.{Written, symbolOf, named, writeSymbol, writeWith, writeAt, writeStep}
+use Rattle.rules.specs.Walk.{Written, symbolOf, named, writeSymbol, writeWith, writeAt}
 use Rattle.rules.specs.Inner.{gone, Inv}
 use Rattle.rules.proofs.Lists.{number-le, getD-number}
 use Rattle.rules.proofs.Positions.{Turn, gone-le-count}
@@ -28,7 +28,7 @@ use Rattle.replay.specs.Replays.{knownIn, deducingRank, writesBy, writes
 pub record Stepping (m : List ℕ) (w : Walk) (names : List ℕ) (s : Yield) : Type 0 where
   pub walk : Walk
   pub after : List ℕ
-  pub step : writeStep m w names ≡ Written.wrote (told s) walk after
+  pub step : writeAt m w names (head w) ≡ Written.wrote (told s) walk after
   pub count : walk .count ≡ countAfter s (w .count)
 
 -- the numbers of the room are those of the names, as far as the tests ask
@@ -139,7 +139,7 @@ module _ (m : List ℕ) (root : ℕ) (w : Walk) (names work : List ℕ) (v : Inv
 
     -- a step of the rules and what is written by numbers are one
     pub steps-written : Stepping m w names written
-    unfolding writesBy writeStep writeAt writeWith writeSymbol symbolOf named across knows deduces name apply tie pass join fresh
+    unfolding writesBy writeAt writeWith writeSymbol symbolOf named across knows deduces name apply tie pass join fresh
     steps-written = go knows deduces refl refl
       where
         asked : (a c : Bool) → eqb (across j) (name names b) ≡ a → nameless names (across j) ≡ c → partner w j b ≡ Partner.asked

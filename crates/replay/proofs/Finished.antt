@@ -9,17 +9,21 @@ use lib.ListN.{length, length-append, List·getD-append}
 use lib.Seq.{getD-append-add}
 use lib.Dec.{eqb}
 use borrow.Author.Tests.{lt-ltb, le-ltb}
+use Rattle.rules.specs.declared.Form.{Form}
 use Rattle.rules.specs.Lists.{listOf, number}
 use Rattle.rules.specs.Map.{byDart, mark, Valid, Limits}
 use Rattle.rules.specs.Walk.{Walk, Head, head, Partner, partner, Symbol, enough, Written, symbolOf, named, writeSymbol, writeWith, writeAt, writeStep}
-use Rattle.rules.specs.Walk.{prepend, writeOn, write, namesOf}
+use Rattle.rules.specs.Walk.{due, resume, steps, leastUnnumbered, resumeNames, resumed, prepend, writeOn, write, namesOf}
 use Rattle.rules.specs.Check.{numbering}
 use Rattle.rules.proofs.Lists.{length-listOf, getD-listOf}
+use Rattle.rules.proofs.Check.{wanted-rooted}
 use Rattle.rules.proofs.Names.{name}
 use Rattle.rules.proofs.Numbering.{name-number, name-below, names-all}
 use Rattle.walk.specs.Numbers.{numberIn, dartIn}
 use Rattle.walk.proofs.Rooms.{Agrees}
-use Rattle.walk.proofs.Walking.{Rooted, Walking, ahead, ends-named}
+use Rattle.walk.specs.Standing.{Walking}
+use Rattle.walk.proofs.Walking.{Rooted, ahead, ends-named}
+use Rattle.walk.proofs.Going.{rooted}
 use Rattle.replay.specs.Replays.{NumberedFrom}
 
 -- names and more names
@@ -50,10 +54,9 @@ named-more Symbol.new names x = (x ∷ [], refl)
 named-more Symbol.border names x = ([], rw append-nil)
 named-more (Symbol.index e) names x = ([], rw append-nil)
 
-step-more : (m : List ℕ) (w w' : Walk) (names names' : List ℕ) (out : List Symbol) → writeStep m w names ≡ Written.wrote out w' names'
+at-more : (m : List ℕ) (w w' : Walk) (names names' : List ℕ) (out : List Symbol) (h : Head) → writeAt m w names h ≡ Written.wrote out w' names'
     → (rest : List ℕ) × (names' ≡ names ++ rest)
-unfolding writeStep
-step-more m w w' names names' out e = at (head w) e
+at-more m w w' names names' out h e = at h e
   where
     with' : (j b d x : ℕ) (p : Partner) → writeWith w names j b d x p ≡ Written.wrote out w' names' → (rest : List ℕ) × (names' ≡ names ++ rest)
     with' j b d x Partner.known e = unfold writeWith in let q : names ≡ names' = cc in ([], sym q ∙ rw append-nil)
@@ -71,6 +74,28 @@ step-more m w w' names names' out e = at (head w) e
 more-more : (x names names' r q : List ℕ) → x ≡ names' ++ q → names' ≡ names ++ r → x ≡ names ++ (r ++ q)
 more-more x names names' r q e f = e ∙ rw (f, append-assoc)
 
+-- and so they do where a body is begun
+resume-more : (w : Walk) (names : List ℕ) → (rest : List ℕ) × (resumeNames w names ≡ names ++ rest)
+unfolding resumeNames
+resume-more w names = go (due w)
+  where
+    go : (t : Bool) → (rest : List ℕ) × (cond t (names ++ (leastUnnumbered (w .darts) names ∷ [])) names ≡ names ++ rest)
+    go true = (leastUnnumbered (w .darts) names ∷ [], refl)
+    go false = ([], rw append-nil)
+
+step-more : (m : List ℕ) (w w' : Walk) (names names' : List ℕ) (out : List Symbol) → writeStep m w names ≡ Written.wrote out w' names'
+    → (rest : List ℕ) × (names' ≡ names ++ rest)
+unfolding writeStep
+step-more m w w' names names' out e = go (writeAt m w names (head w)) refl e
+  where
+    go : (s : Written) → writeAt m w names (head w) ≡ s → resumed s ≡ Written.wrote out w' names' → (rest : List ℕ) × (names' ≡ names ++ rest)
+    go Written.finished q e = unfold resumed in let z : _≡_ {A = ℕ} 0 1 = cc e in absurd (omega arith)
+    go (Written.wrote out1 w1 names1) q e = unfold resumed in
+        let z : resumeNames w1 names1 ≡ names' = cc e in
+        let (r, f) = at-more m w w1 names names1 out1 (head w) q in
+        let (r', f') = resume-more w1 names1 in
+        (r ++ r', more-more names' names names1 r r' (sym z ∙ f') f)
+
 write-more : (f : ℕ) (m : List ℕ) (w : Walk) (names : List ℕ) → (rest : List ℕ) × ((write f m w names) .names ≡ names ++ rest)
 unfolding write
 write-more zero m w names = ([], rw append-nil)
@@ -85,37 +110,39 @@ write-more (suc f) m w names = go (λ w' names'. write-more f m w' names') (writ
         (r ++ q, more-more _ names names' r q u p)
 
 -- what the contracts ask makes the map one to walk over
-pub rooted-by : {N n : ℕ} {m : List ℕ} {root : ℕ} {work : List ℕ} → Limits N n m → Valid byDart N n m → NumberedFrom N n m root work → Rooted N n m root
-rooted-by L A Q = record { ranks = L .dims .1; small = L .darts .1; dart = Q .connected .rooted; valid = A }
+pub rooted-by : {F : Form} {N n : ℕ} {m : List ℕ} {root : ℕ} {work : List ℕ} → Limits N n m → Valid byDart N n m → NumberedFrom F N n m root work
+    → Rooted N n m root
+rooted-by {F} {N} {n} {m} {root} L A Q = rooted L A (wanted-rooted F byDart N n m root (Q .bodies))
 
 -- a finished numbering
-module _ {N n : ℕ} {m : List ℕ} {root : ℕ} (P : Rooted N n m root) {work : List ℕ} (Q : NumberedFrom N n m root work) where
+module _ {F : Form} {N n : ℕ} {m : List ℕ} {root : ℕ} (P : Rooted N n m root) {work : List ℕ} (Q : NumberedFrom F N n m root work) where
   full : List ℕ
-  full = namesOf byDart N n m root
+  full = namesOf F byDart N n m root
 
   full-length : length full ≡ n
   unfolding full
-  full-length = names-all byDart N n m root (P .ranks) (P .small) (P .dart) (P .valid) (Q .connected)
+  full-length = names-all F byDart N n m root (P .ranks) (P .small) (P .dart) (P .valid) (Q .bodies)
 
   numbered-entry : (d : ℕ) → d < n → numberIn n work d ≡ number full d
   unfolding numberIn numbering full
   numbered-entry d h =
-      let l : d < length (listOf n (number (namesOf byDart N n m root)) ++ namesOf byDart N n m root) = simp (length-append, length-listOf) (omega arith) in
-      let l' : d < length (listOf n (number (namesOf byDart N n m root))) = omega (arith, length-listOf n (number (namesOf byDart N n m root))) in
+      let l : d < length (listOf n (number (namesOf F byDart N n m root)) ++ namesOf F byDart N n m root) = simp (length-append, length-listOf) (omega arith) in
+      let l' : d < length (listOf n (number (namesOf F byDart N n m root))) = omega (arith, length-listOf n (number (namesOf F byDart N n m root))) in
       rw (lt-ltb d n h, Q .room)
-      (List·getD-append (listOf n (number (namesOf byDart N n m root)) ++ namesOf byDart N n m root) (Q .tail) mark d l
-      ∙ (List·getD-append (listOf n (number (namesOf byDart N n m root))) (namesOf byDart N n m root) mark d l' ∙ getD-listOf n
-      (number (namesOf byDart N n m root)) d mark h))
+      (List·getD-append (listOf n (number (namesOf F byDart N n m root)) ++ namesOf F byDart N n m root) (Q .tail) mark d l
+      ∙ (List·getD-append (listOf n (number (namesOf F byDart N n m root))) (namesOf F byDart N n m root) mark d l' ∙ getD-listOf n
+      (number (namesOf F byDart N n m root)) d mark h))
 
   dart-entry : (b : ℕ) → b < n → dartIn n work b ≡ name full b
   unfolding numbering full name
   dart-entry b h =
-      let a = listOf n (number (namesOf byDart N n m root)) in
-      let la = length-listOf n (number (namesOf byDart N n m root)) in
-      let l : n + b < length (a ++ namesOf byDart N n m root) =
-      simp (length-append, length-listOf) (omega (arith, names-all byDart N n m root (P .ranks) (P .small) (P .dart) (P .valid) (Q .connected))) in
+      let a = listOf n (number (namesOf F byDart N n m root)) in
+      let la = length-listOf n (number (namesOf F byDart N n m root)) in
+      let l : n + b < length (a ++ namesOf F byDart N n m root) =
+      simp (length-append, length-listOf) (omega (arith, names-all F byDart N n m root (P .ranks) (P .small) (P .dart) (P .valid) (Q .bodies))) in
       let e : n + b ≡ length a + b = omega arith in
-      rw (Q .room) (List·getD-append (a ++ namesOf byDart N n m root) (Q .tail) mark (n + b) l ∙ rw e (getD-append-add a (namesOf byDart N n m root) b mark))
+      rw (Q .room)
+      (List·getD-append (a ++ namesOf F byDart N n m root) (Q .tail) mark (n + b) l ∙ rw e (getD-append-add a (namesOf F byDart N n m root) b mark))
 
   front-agrees : (names rest : List ℕ) → full ≡ names ++ rest → Agrees n names work
   unfolding full name numberIn
@@ -135,8 +162,8 @@ module _ {N n : ℕ} {m : List ℕ} {root : ℕ} (P : Rooted N n m root) {work :
       below d h =
           let p : number full d ≡ number names d = ap (λ (x : List ℕ). number x d) e ∙ number-front names rest d h in
           let l : number full d < length full = omega (arith, few, full-length) in
-          let q = name-below byDart N n m root (P .ranks) (P .small) (P .dart) (P .valid) (number full d) l in
-          let r = name-number byDart N n m root (P .ranks) (P .small) (P .dart) (P .valid) d l in
+          let q = name-below F byDart N n m root (P .ranks) (P .small) (P .dart) (P .valid) (number full d) l in
+          let r = name-number F byDart N n m root (P .ranks) (P .small) (P .dart) (P .valid) d l in
           rw r at q
 
       free : (d : ℕ) → length names ≤ number names d → Dec (d < n) → length names ≤ numberIn n work d
@@ -144,8 +171,10 @@ module _ {N n : ℕ} {m : List ℕ} {root : ℕ} (P : Rooted N n m root) {work :
       free d h (no l) = rw (le-ltb d n (omega arith)) (omega (arith, few))
 
   -- it agrees with the names of every turn
-  pub agrees-now : {c : ℕ} {ps : List ℕ} (G : Walking N n m root c ps) → Agrees n (G .names) work
+  pub agrees-now : {c : ℕ} {ps : List ℕ} (G : Walking F N n m root c ps) → Agrees n (G .names) work
   unfolding ahead full
   agrees-now G =
-      let (rest, e) = write-more (enough N n - G .done) m (G .walk) (G .names) in
-      front-agrees (G .names) rest (sym (ends-named P G) ∙ e)
+      let w = G .walk in
+      let (r, f) = resume-more w (G .names) in
+      let (q, e) = write-more (enough N n - steps w) m (resume w) (resumeNames w (G .names)) in
+      front-agrees (G .names) (r ++ q) (more-more full (G .names) (resumeNames w (G .names)) r q (sym (ends-named P G) ∙ e) f)

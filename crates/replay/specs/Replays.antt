@@ -7,7 +7,9 @@ use mathlib.Core.Bool.{Bool, true, false, _||_}
 use lib.ListN.{length}
 use lib.Dec.{eqb, ltb, leb}
 use Rattle.rules.specs.Lists.{first}
-use Rattle.rules.specs.Map.{Layout, byDart, link, Connected}
+use Rattle.rules.specs.declared.Form.{Form}
+use Rattle.rules.specs.Bodies.{Wanted}
+use Rattle.rules.specs.Map.{Layout, byDart, link}
 use Rattle.rules.specs.Walk as walk
 use Rattle.rules.specs.Check.{numbering}
 use Rattle.rules.specs.Symbols.{toldSymbol}
@@ -65,8 +67,8 @@ pub record AtHead (n : ℕ) (work : List ℕ) (c p : ℕ) : Type 0 where
   pub dart : dartIn n work p < n
   pub own : p ≤ numberIn n work (dartIn n work p)
 
--- the work room holds the whole numbering of a connected map from a root
-pub record NumberedFrom (N n : ℕ) (t : List ℕ) (root : ℕ) (work : List ℕ) : Type 0 where
-  pub connected : Connected byDart N n t root
+-- the work room holds the whole numbering, from a root, of a map with the bodies that the form wants
+pub record NumberedFrom (F : Form) (N n : ℕ) (t : List ℕ) (root : ℕ) (work : List ℕ) : Type 0 where
+  pub bodies : Wanted F byDart N n t root
   pub tail : List ℕ
-  pub room : work ≡ numbering byDart N n root t ++ tail
+  pub room : work ≡ numbering F byDart N n root t ++ tail

@@ -2,16 +2,22 @@
 -- pen's Laws.
 use Prim.Native.Nat.{ℕ, _+_, _≤_, _<_}
 use mathlib.Core.Path.{_≡_, ap, sym, _∙_}
+use mathlib.Core.Bool.{true, false, _&&_}
 use mathlib.Core.List.{List, [], _∷_, _++_, append-nil}
 use native.Mathlib.Omega.{arith}
 use lib.ListN.{length, getD, length-append}
+use lib.Dec.{ltb}
+use borrow.Author.Tests.{ltb-true}
+use Rattle.rules.specs.declared.Form.{Form}
+use Rattle.rules.specs.Bodies.{several}
 use Rattle.rules.specs.Map.{byDart}
 use Rattle.rules.specs.declared.Symbol as rules
 use Rattle.rules.specs.declared.Symbol.the-variants.{New, Border, Index}
 use Rattle.rules.specs.Symbols.{toldSymbol}
 use Rattle.rules.specs.Walk.{Symbol, symbolsOf}
 use Rattle.rules.specs.Stream.{code, codes}
-use Rattle.rules.specs.Inner.{Emptied, Lowest}
+use Rattle.rules.specs.Inner.{Emptied, Lowest, bodyDue}
+use Rattle.rules.proofs.Lists.{and-left, and-right}
 use Rattle.rules.proofs.Runs.{codes-append}
 use Rattle.rules.proofs.Streams.{symbols-few}
 use Rattle.walk.specs.Numbers.{positionsAfter}
@@ -20,7 +26,7 @@ use Rattle.replay.specs.declared.Yield.{Yield}
 use Rattle.replay.specs.declared.Yield.the-variants.{Nothing, One}
 use Rattle.replay.specs.declared.Replayed.{Replayed}
 use Rattle.replay.specs.Replays.{writesIn, replayedIn, told, NumberedFrom}
-use Rattle.replay.proofs.Replays.{Replaying, index-below, replay-starts, replay-ends, replay-goes}
+use Rattle.replay.proofs.Replays.{Replaying, index-below, replay-starts, replay-ends, replay-begins, replay-goes}
 use Rattle.pen.specs.declared.Pen.{Pen}
 use Rattle.pen.specs.Pens.{PenFits, Put, IndexFits}
 use Rattle.pen.proofs.Laws.{put-none, put-both}
@@ -46,35 +52,46 @@ yield-fits N n t work c j p h (One New) e = tt
 yield-fits N n t work c j p h (One Border) e = tt
 yield-fits N n t work c j p h (One (Index x)) e = omega (arith, index-below N n t work c j p x (sym e))
 
+-- a body is due past the last rank only, and while darts remain
+pub due-says : (F : Form) (N n j c : ℕ) → bodyDue F N n j c ≡ true → (N < j) × (c < n)
+unfolding bodyDue
+due-says F N n j c e =
+    let l = and-left (ltb N j && ltb c n) (several F) e in
+    (ltb-true N j (and-left (ltb N j) (ltb c n) l), ltb-true c n (and-right (ltb N j) (ltb c n) l))
+
 -- where the writer stands: the replay has yielded some symbols, and their codes were put
-pub record Writing (N n : ℕ) (m : List ℕ) (root c : ℕ) (ps : List ℕ) (start : ℕ) (pen r : Pen) (out out' : List ℕ) : Type 0 where
+pub record Writing (F : Form) (N n : ℕ) (m : List ℕ) (root c : ℕ) (ps : List ℕ) (start : ℕ) (pen r : Pen) (out out' : List ℕ) : Type 0 where
   pub symbols : List Symbol
-  pub replaying : Replaying N n m root c ps symbols
+  pub replaying : Replaying F N n m root c ps symbols
   pub put : Put (codes symbols) start pen r out out'
 
-module _ {N n : ℕ} {m : List ℕ} {root : ℕ} (P : Rooted N n m root) {work : List ℕ} (Q : NumberedFrom N n m root work) {start : ℕ} {pen : Pen}
+module _ {F : Form} {N n : ℕ} {m : List ℕ} {root : ℕ} (P : Rooted N n m root) {work : List ℕ} (Q : NumberedFrom F N n m root work) {start : ℕ} {pen : Pen}
     {out : List ℕ} where
-  pub writing-starts : Writing N n m root 1 (0 ∷ 0 ∷ 0 ∷ 0 ∷ 0 ∷ 0 ∷ 0 ∷ []) start pen pen out out
+  pub writing-starts : Writing F N n m root 1 (0 ∷ 0 ∷ 0 ∷ 0 ∷ 0 ∷ 0 ∷ 0 ∷ []) start pen pen out out
   unfolding codes
   writing-starts = record { symbols = []; replaying = replay-starts P Q; put = put-none start pen out }
 
-  module _ {c : ℕ} {ps : List ℕ} {r : Pen} {o : List ℕ} (W : Writing N n m root c ps start pen r out o) where
+  module _ {c : ℕ} {ps : List ℕ} {r : Pen} {o : List ℕ} (W : Writing F N n m root c ps start pen r out o) where
     -- the pen has room for the next code
     pub writing-fits : PenFits 401422 pen → PenFits 14 r
     writing-fits h =
-        let e : length (codes (W .symbols)) + length (codes (ahead (W .replaying .walking) .symbols)) ≡ length (codes (symbolsOf byDart N n m root)) =
+        let e : length (codes (W .symbols)) + length (codes (ahead (W .replaying .walking) .symbols)) ≡ length (codes (symbolsOf F byDart N n m root)) =
         sym (length-append (codes (W .symbols)) _) ∙ ap length (sym (codes-append (W .symbols) _) ∙ ap codes (W .replaying .left)) in
-        let l : length (codes (W .symbols)) + 14 ≤ 401422 = omega (arith, symbols-few byDart N n m root (P .ranks) (P .small) (P .dart) (P .valid)) in
+        let l : length (codes (W .symbols)) + 14 ≤ 401422 = omega (arith, symbols-few F byDart N n m root (P .ranks) (P .small) (P .dart) (P .valid)) in
         W .put .fits 14 (record { room = omega (arith, h .room); inByte = h .inByte; holds = h .holds })
 
-    -- the end, where all queues are empty: all symbols were put
-    pub writing-ends : (j : ℕ) → Emptied c ps j → N < j → Put (codes (symbolsOf byDart N n m root)) start pen r out o
-    writing-ends j E h = rw (← replay-ends P Q (W .replaying) j E h) (W .put)
+    -- the end, where all queues are empty and no body is due: all symbols were put
+    pub writing-ends : (j : ℕ) → Emptied c ps j → N < j → bodyDue F N n j c ≡ false → Put (codes (symbolsOf F byDart N n m root)) start pen r out o
+    writing-ends j E h r = rw (← replay-ends P Q (W .replaying) j E h r) (W .put)
+
+    -- where one is due, it begins and nothing is put
+    pub writing-begins : (j : ℕ) → Emptied c ps j → N < j → bodyDue F N n j c ≡ true → Writing F N n m root (c + 1) ps start pen r out o
+    writing-begins j E h d = record { symbols = W .symbols; replaying = replay-begins P Q (W .replaying) j E h d; put = W .put }
 
     -- a turn at the lowest queue that isn't empty, over what its calls answered
     pub writing-goes : (j : ℕ) → Lowest N c ps j → (k : Replayed) → k ≡ replayedIn byDart N n m work c j (getD ps j 0) → {ps' : List ℕ}
         → ps' ≡ positionsAfter j ps
-        → {q : Pen} {o' : List ℕ} → Put (codes (told (k .written))) start r q o o' → Writing N n m root (k .count) ps' start pen q out o'
+        → {q : Pen} {o' : List ℕ} → Put (codes (told (k .written))) start r q o o' → Writing F N n m root (k .count) ps' start pen q out o'
     writing-goes j e k ek ep u =
         let s = writesIn byDart N n m work c j (getD ps j 0) in
         let x = rw ek at u in

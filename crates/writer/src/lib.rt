@@ -2,10 +2,12 @@
 // to the stream's length.
 use pen::Pen;
 use replay::Yield;
+use rules::Form;
 use rules::WriteAnswer;
 ghost use mathlib.Core.Path.{_≡_};
 ghost use Prim.Native.Nat.{ℕ, _*_, _≤_};
 ghost use lib.ListN.{length};
+ghost use Rattle.rules.specs.Bodies.{firstBits};
 ghost use Rattle.rules.specs.Map.{byDart, Limits, Valid};
 ghost use Rattle.rules.specs.Walk.{symbolsOf};
 ghost use Rattle.rules.specs.Stream.{codes, filled};
@@ -28,8 +30,10 @@ pub fn put_yield(pen: Pen, s: Yield, start: usize, out: &mut [u8]) -> Pen
 }
 
 // The symbols of the whole walk. Positions say how many darts have left each queue. The queues below Lj are empty, so
-// Lj holds the numbers from position j up to the count.
+// Lj holds the numbers from position j up to the count. The numbering is finished: the dart with which the next body
+// begins has the next number already.
 pub fn put_symbols(
+    form: Form,
     tables: &[u16],
     work: &[u16],
     dim: usize,
@@ -39,9 +43,9 @@ pub fn put_symbols(
     out: &mut [u8],
 ) -> Pen
     requires { ⌜ Limits dim darts (now tables) × Valid byDart dim darts (now tables) × (2 * darts ≤ length (now work))
-        × PenFits 401422 pen × ((root : ℕ) × NumberedFrom dim darts (now tables) root (now work)) ⌝ }
-    ensures { λ q. ⌜ ((root : ℕ) → NumberedFrom dim darts (now (tables .entry)) root (now (work .entry))
-        → Put (codes (symbolsOf byDart dim darts (now (tables .entry)) root)) start pen q (now (out .entry))
+        × PenFits 401422 pen × ((root : ℕ) × NumberedFrom form dim darts (now tables) root (now work)) ⌝ }
+    ensures { λ q. ⌜ ((root : ℕ) → NumberedFrom form dim darts (now (tables .entry)) root (now (work .entry))
+        → Put (codes (symbolsOf form byDart dim darts (now (tables .entry)) root)) start pen q (now (out .entry))
         (now (out .exit))) ⌝ }
 {
     let mut positions = [0u16; 7];
@@ -51,6 +55,11 @@ pub fn put_symbols(
     while j <= dim {
         if count <= positions[j] {
             j += 1;
+            // all queues are empty and darts remain, so that dart enters L0, without a symbol
+            if rules::body_due(form, dim, darts, j, count) {
+                count += 1;
+                j = 0;
+            }
         } else {
             let s = replay::step(tables, work, &mut positions, dim, darts, j, count);
             let written = s.written;
@@ -78,8 +87,20 @@ pub fn bytes_of(pen: Pen) -> usize
     pen.at
 }
 
+// The first four bits of a stream: N, and 8 more in the several form.
+pub fn first_bits(form: Form, dim: usize) -> u16
+    requires { ⌜ dim ≤ 6 ⌝ }
+    ensures { λ r. ⌜ r ≡ firstBits form dim ⌝ }
+{
+    match form {
+        Form::One => dim as u16,
+        Form::Several => 8 + dim as u16,
+    }
+}
+
 // Header, symbols, fill: the bytes of the page. The answer is the stream's length.
 pub fn emit(
+    form: Form,
     tables: &[u16],
     work: &[u16],
     dim: usize,
@@ -88,19 +109,20 @@ pub fn emit(
     out: &mut [u8],
 ) -> usize
     requires { ⌜ Limits dim darts (now tables) × Valid byDart dim darts (now tables) × (2 * darts ≤ length (now work))
-        × ((root : ℕ) × NumberedFrom dim darts (now tables) root (now work)) ⌝ }
-    ensures { λ r. ⌜ ((root : ℕ) → NumberedFrom dim darts (now (tables .entry)) root (now (work .entry))
-        → (r ≡ length (stream byDart dim darts (now (tables .entry)) root))
-        × (now (out .exit) ≡ penned (stream byDart dim darts (now (tables .entry)) root) start (now (out .entry)))) ⌝ }
+        × ((root : ℕ) × NumberedFrom form dim darts (now tables) root (now work)) ⌝ }
+    ensures { λ r. ⌜ ((root : ℕ) → NumberedFrom form dim darts (now (tables .entry)) root (now (work .entry))
+        → (r ≡ length (stream form byDart dim darts (now (tables .entry)) root))
+        × (now (out .exit)
+        ≡ penned (stream form byDart dim darts (now (tables .entry)) root) start (now (out .entry)))) ⌝ }
 {
     let none = Pen {
         at: 0,
         bits: 0,
         value: 0,
     };
-    let first = pen::put_few(none, dim as u16, 4, start, out);
+    let first = pen::put_few(none, first_bits(form, dim), 4, start, out);
     let second = pen::put_number(first, (darts - 1) as u16, 12, start, out);
-    let last = put_symbols(tables, work, dim, darts, second, start, out);
+    let last = put_symbols(form, tables, work, dim, darts, second, start, out);
     pen::fill(last, start, out);
     bytes_of(last)
 }
@@ -117,6 +139,7 @@ pub fn least(a: usize, b: usize) -> usize
 
 // A page of a map's stream.
 pub fn write(
+    form: Form,
     dim: usize,
     darts: usize,
     root: usize,
@@ -126,12 +149,12 @@ pub fn write(
     out: &mut [u8],
 ) -> WriteAnswer
     ensures { λ r. ⌜
-        (r ≡ writeAnswer byDart dim darts root start (now (tables .entry)) (now (work .entry)) (now (out .entry)))
-        × (now (work .exit) ≡ writeWork byDart dim darts root (now (tables .entry)) (now (work .entry)))
+        (r ≡ writeAnswer form byDart dim darts root start (now (tables .entry)) (now (work .entry)) (now (out .entry)))
+        × (now (work .exit) ≡ writeWork form byDart dim darts root (now (tables .entry)) (now (work .entry)))
         × (now (out .exit)
-        ≡ writeOut byDart dim darts root start (now (tables .entry)) (now (work .entry)) (now (out .entry))) ⌝ }
+        ≡ writeOut form byDart dim darts root start (now (tables .entry)) (now (work .entry)) (now (out .entry))) ⌝ }
 {
-    let c = checker::check(dim, darts, root, tables, work);
+    let c = checker::check(form, dim, darts, root, tables, work);
     if c.number != 0 {
         return WriteAnswer {
             number: c.number,
@@ -141,7 +164,7 @@ pub fn write(
         };
     }
     // a page that begins past the end has no byte of the stream, so nothing is written then
-    let length = emit(tables, work, dim, darts, start, out);
+    let length = emit(form, tables, work, dim, darts, start, out);
     if length < start {
         return WriteAnswer {
             number: 10,
