@@ -4,6 +4,7 @@ use Prim.Native.Nat.{ℕ}
 use mathlib.Core.Path.{_≡_, ap, sym, _∙_}
 use mathlib.Core.List.{List}
 use lib.ListN.{getD}
+use Rattle.rules.specs.declared.Form.{Form}
 use Rattle.rules.specs.Map.{byDart}
 use Rattle.rules.specs.Check.{checkAnswer, checkWork}
 use Rattle.rules.specs.Reading.{readAnswer, readTables}
@@ -16,19 +17,21 @@ use Rattle.stored.specs.Answers.{checkNumbers, writeNumbers, readNumbers, repor
 use Rattle.stored.specs.Layout.{storedSession}
 use Rattle.exchange.specs.Rooms.{Lent, lent, pageLent, closeLent, facesNumbers}
 
-pub one-kz-check : (N n root : ℕ) (t work : List ℕ) (r r' : ℕ) (a a' u u' : List ℕ)
-    → (r ≡ checkAnswer byDart N n root t work .number) × (a ≡ checkNumbers (checkAnswer byDart N n root t work)) × (u ≡ checkWork byDart N n root t work)
-    → (r' ≡ checkAnswer byDart N n root t work .number) × (a' ≡ checkNumbers (checkAnswer byDart N n root t work)) × (u' ≡ checkWork byDart N n root t work)
+-- of `kz_check` and `kz_check_bodies`, each in its form
+pub one-kz-check : (F : Form) (N n root : ℕ) (t work : List ℕ) (r r' : ℕ) (a a' u u' : List ℕ)
+    → (r ≡ checkAnswer F byDart N n root t work .number) × (a ≡ checkNumbers (checkAnswer F byDart N n root t work)) × (u ≡ checkWork F byDart N n root t work)
+    → (r' ≡ checkAnswer F byDart N n root t work .number) × (a' ≡ checkNumbers (checkAnswer F byDart N n root t work)) × (u' ≡ checkWork F byDart N n root t work)
     → (r ≡ r') × (a ≡ a') × (u ≡ u')
-one-kz-check N n root t work r r' a a' u u' (p, q, s) (p', q', s') = (one-value _ _ _ p p', one-value _ _ _ q q', one-value _ _ _ s s')
+one-kz-check F N n root t work r r' a a' u u' (p, q, s) (p', q', s') = (one-value _ _ _ p p', one-value _ _ _ q q', one-value _ _ _ s s')
 
-pub one-kz-write : (N n root start : ℕ) (t work out : List ℕ) (r r' : ℕ) (a a' u u' o o' : List ℕ)
-    → (r ≡ writeAnswer byDart N n root start t work out .number) × (a ≡ writeNumbers (writeAnswer byDart N n root start t work out))
-    × (u ≡ writeWork byDart N n root t work) × (o ≡ writeOut byDart N n root start t work out)
-    → (r' ≡ writeAnswer byDart N n root start t work out .number) × (a' ≡ writeNumbers (writeAnswer byDart N n root start t work out))
-    × (u' ≡ writeWork byDart N n root t work) × (o' ≡ writeOut byDart N n root start t work out)
+-- of `kz_write` and `kz_write_bodies`
+pub one-kz-write : (F : Form) (N n root start : ℕ) (t work out : List ℕ) (r r' : ℕ) (a a' u u' o o' : List ℕ)
+    → (r ≡ writeAnswer F byDart N n root start t work out .number) × (a ≡ writeNumbers (writeAnswer F byDart N n root start t work out))
+    × (u ≡ writeWork F byDart N n root t work) × (o ≡ writeOut F byDart N n root start t work out)
+    → (r' ≡ writeAnswer F byDart N n root start t work out .number) × (a' ≡ writeNumbers (writeAnswer F byDart N n root start t work out))
+    × (u' ≡ writeWork F byDart N n root t work) × (o' ≡ writeOut F byDart N n root start t work out)
     → (r ≡ r') × (a ≡ a') × (u ≡ u') × (o ≡ o')
-one-kz-write N n root start t work out r r' a a' u u' o o' (p, q, s, z) (p', q', s', z') =
+one-kz-write F N n root start t work out r r' a a' u u' o o' (p, q, s, z) (p', q', s', z') =
     (one-value _ _ _ p p', one-value _ _ _ q q', one-value _ _ _ s s', one-value _ _ _ z z')
 
 pub one-kz-read : (bytes t : List ℕ) (r r' : ℕ) (a a' u u' : List ℕ)
@@ -37,11 +40,12 @@ pub one-kz-read : (bytes t : List ℕ) (r r' : ℕ) (a a' u u' : List ℕ)
     → (r ≡ r') × (a ≡ a') × (u ≡ u')
 one-kz-read bytes t r r' a a' u u' (p, q, s) (p', q', s') = (one-value _ _ _ p p', one-value _ _ _ q q', one-value _ _ _ s s')
 
-pub one-kz-report : (N n : ℕ) (t work : List ℕ) (r r' : ℕ) (a a' u u' : List ℕ)
-    → (r ≡ reportAnswer byDart N n t work .number) × (a ≡ reportNumbers (reportAnswer byDart N n t work)) × (u ≡ reportWork byDart N n t work)
-    → (r' ≡ reportAnswer byDart N n t work .number) × (a' ≡ reportNumbers (reportAnswer byDart N n t work)) × (u' ≡ reportWork byDart N n t work)
+-- of `kz_report` and `kz_report_bodies`
+pub one-kz-report : (F : Form) (N n : ℕ) (t work : List ℕ) (r r' : ℕ) (a a' u u' : List ℕ)
+    → (r ≡ reportAnswer F byDart N n t work .number) × (a ≡ reportNumbers (reportAnswer F byDart N n t work)) × (u ≡ reportWork F byDart N n t work)
+    → (r' ≡ reportAnswer F byDart N n t work .number) × (a' ≡ reportNumbers (reportAnswer F byDart N n t work)) × (u' ≡ reportWork F byDart N n t work)
     → (r ≡ r') × (a ≡ a') × (u ≡ u')
-one-kz-report N n t work r r' a a' u u' (p, q, s) (p', q', s') = (one-value _ _ _ p p', one-value _ _ _ q q', one-value _ _ _ s s')
+one-kz-report F N n t work r r' a a' u u' (p, q, s) (p', q', s') = (one-value _ _ _ p p', one-value _ _ _ q q', one-value _ _ _ s s')
 
 pub one-kz-faces : (text t work : List ℕ) (r r' : ℕ) (a a' u u' w w' : List ℕ)
     → (r ≡ facesAnswer byDart text t work .number) × (a ≡ facesNumbers (facesAnswer byDart text t work)) × (u ≡ facesTables byDart text t work)

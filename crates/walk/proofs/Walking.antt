@@ -135,7 +135,7 @@ pub record Rooted (N n : ℕ) (m : List ℕ) (root : ℕ) : Type 0 where
   pub valid : Valid byDart N n m
 
 -- where no body is due, none is begun over a map either
-pub rested-names : (w : Walk) (names : List ℕ) → due w ≡ false → resumeNames w names ≡ names
+rested-names : (w : Walk) (names : List ℕ) → due w ≡ false → resumeNames w names ≡ names
 unfolding resumeNames
 rested-names w names e = rw e
 
@@ -268,13 +268,13 @@ module _ {F : Form} {N n : ℕ} {m : List ℕ} {root : ℕ} (P : Rooted N n m ro
     pub inv-now : Inv (G .walk)
     inv-now = came (G .along) .inv
 
-    pub kept-resumed : Kept F byDart N n m root (steps (G .walk)) (resume (G .walk)) (resumeNames (G .walk) (G .names))
+    kept-resumed : Kept F byDart N n m root (steps (G .walk)) (resume (G .walk)) (resumeNames (G .walk) (G .names))
     kept-resumed = keeps (came (G .along) .after)
 
     grows : Grows (G .walk) (resume (G .walk))
     grows = resume-grows (G .walk)
 
-    pub dim-now : G .walk .dim ≡ N
+    dim-now : G .walk .dim ≡ N
     dim-now = sym (grows .dim) ∙ kept-resumed .dim
 
     pub darts-now : G .walk .darts ≡ n

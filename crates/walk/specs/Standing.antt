@@ -36,7 +36,7 @@ pub record Going (F : Form) (N n : ℕ) (m : List ℕ) (root : ℕ) (lent : List
   pub bodies : b ≡ walking .walk .bodies
   pub room : work ≡ roomOf n (walking .names) lent
 
--- it stands somewhere on its way
+-- it stands somewhere on its way, of some form and from some root
 pub record Underway (N n : ℕ) (m : List ℕ) (c : ℕ) (ps work : List ℕ) : Type 0 where
   pub form : Form
   pub root : ℕ
@@ -44,13 +44,13 @@ pub record Underway (N n : ℕ) (m : List ℕ) (c : ℕ) (ps work : List ℕ) : 
   pub bodies : ℕ
   pub going : Going form N n m root lent bodies c ps work
 
--- it has gone on in the same body, wherever it stood, and the darts that had a number have one
+-- it has gone on in the same body from wherever it stood: the darts that had a number have one, and none is taken back
 pub record WentOn (N n : ℕ) (m : List ℕ) (c : ℕ) (ps work : List ℕ) (c' : ℕ) (ps' work' : List ℕ) : Type 0 where
   pub going : (F : Form) (root : ℕ) (lent : List ℕ) (b : ℕ) → Going F N n m root lent b c ps work → Going F N n m root lent b c' ps' work'
   pub keeps : (d : ℕ) → d < n → getD work d mark ≢ mark → getD work' d mark ≢ mark
   pub grows : c ≤ c'
 
--- what it says that r bodies were begun: where it is one the numbered darts are those of the root's body, where there are more some dart is of no such
+-- what is known once r bodies were begun: the several form numbers all darts; where r is 1 those numbered are reached from the root, else some dart is not
 pub record Begun (F : Form) (N n : ℕ) (m : List ℕ) (root r : ℕ) : Type 0 where
   pub some : 1 ≤ r
   pub few : r ≤ n

@@ -1,10 +1,10 @@
--- `exchange::kz_write` meets its contract: the writer's own, as stored. Assumes nothing.
+-- `exchange::write_in` meets its contract: the writer's own, as stored. Assumes nothing.
 use mathlib.Core.Path.{ap}
 use borrow.Author.Needs.{needs}
 use Rattle.rules.specs.declared.WriteAnswer.{WriteAnswer}
 use Rattle.stored.specs.Answers.{writeNumbers}
-use Rattle.exchange.proofs.kz_write.Statement.{statement}
-use Rattle.exchange.proofs.kz_write.Tie as tie
+use Rattle.exchange.proofs.write_in.Statement.{statement}
+use Rattle.exchange.proofs.write_in.Tie as tie
 
 write-requires : tie.Need-write-requires
 write-requires c κs = search needs
@@ -20,5 +20,5 @@ returns c =
     let e = c .before .before .before .before .before .write .ensures in
     (ap (λ (a : WriteAnswer). a .number) (e .0), ap writeNumbers (e .0), e .1, e .2)
 
-pub kz-write-spec : {M : Type 1} → statement M
-kz-write-spec = tie.close (tie.spec write-requires same-length same-length-2 returns)
+pub write-in-spec : {M : Type 1} → statement M
+write-in-spec = tie.close (tie.spec write-requires same-length same-length-2 returns)
