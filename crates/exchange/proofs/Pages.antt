@@ -11,7 +11,8 @@ use Rattle.rules.specs.Writing.{stream, writeAnswer, writeOut, writeWork}
 use Rattle.writer.proofs.Demands.{Writes, Served, served-bytes, served-stream}
 use Rattle.stored.specs.Answers.{writeNumbers}
 
--- the contract of `kz_write`, or in the several form of `kz_write_bodies`: r, answer, work' and out' are the number returned, the answer stored, the work room and the output that a call leaves
+-- the contract of `kz_write`, or in the several form of `kz_write_bodies`: r, answer, work' and out' are the number returned, the answer stored, the work
+-- room and the output that a call leaves
 pub record Stores (F : Form) (N n root : ℕ) (t : List ℕ) (start : ℕ) (work out : List ℕ) (r : ℕ) (answer work' out' : List ℕ) : Type 0 where
   pub number : r ≡ writeAnswer F byDart N n root start t work out .number
   pub stored : answer ≡ writeNumbers (writeAnswer F byDart N n root start t work out)

@@ -19,8 +19,10 @@ use Rattle.exchange.specs.Rooms.{Lent, lent, pageLent, closeLent, facesN
 
 -- of `kz_check` and `kz_check_bodies`, each in its form
 pub one-kz-check : (F : Form) (N n root : ℕ) (t work : List ℕ) (r r' : ℕ) (a a' u u' : List ℕ)
-    → (r ≡ checkAnswer F byDart N n root t work .number) × (a ≡ checkNumbers (checkAnswer F byDart N n root t work)) × (u ≡ checkWork F byDart N n root t work)
-    → (r' ≡ checkAnswer F byDart N n root t work .number) × (a' ≡ checkNumbers (checkAnswer F byDart N n root t work)) × (u' ≡ checkWork F byDart N n root t work)
+    → (r ≡ checkAnswer F byDart N n root t work .number) × (a ≡ checkNumbers (checkAnswer F byDart N n root t work))
+    × (u ≡ checkWork F byDart N n root t work)
+    → (r' ≡ checkAnswer F byDart N n root t work .number) × (a' ≡ checkNumbers (checkAnswer F byDart N n root t work))
+    × (u' ≡ checkWork F byDart N n root t work)
     → (r ≡ r') × (a ≡ a') × (u ≡ u')
 one-kz-check F N n root t work r r' a a' u u' (p, q, s) (p', q', s') = (one-value _ _ _ p p', one-value _ _ _ q q', one-value _ _ _ s s')
 
