@@ -21,8 +21,8 @@ use Rattle.rules.proofs.Names.{name}
 use Rattle.rules.proofs.Numbering.{name-number, name-below, names-all}
 use Rattle.walk.specs.Numbers.{numberIn, dartIn}
 use Rattle.walk.proofs.Rooms.{Agrees}
-use Rattle.walk.specs.Standing.{Walking}
-use Rattle.walk.proofs.Walking.{Rooted, ahead, ends-named}
+use Rattle.walk.specs.Standing.{Walking, ahead}
+use Rattle.walk.proofs.Walking.{Rooted, ends-named}
 use Rattle.walk.proofs.Going.{rooted}
 use Rattle.replay.specs.Replays.{NumberedFrom}
 

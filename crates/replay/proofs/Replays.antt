@@ -17,13 +17,13 @@ use Rattle.rules.specs.Walk.{Walked, prepend, symbolsOf}
 use Rattle.rules.specs.Inner.{Emptied, Lowest, bodyDue}
 use Rattle.walk.specs.Numbers.{numberIn, dartIn, positionsAfter}
 use Rattle.walk.proofs.Rooms.{Agrees}
-use Rattle.walk.specs.Standing.{Walking}
-use Rattle.walk.proofs.Walking.{Rooted, ahead, walking-starts, starts-ahead, due-over, walking-over, walking-begins, kept-turn}
+use Rattle.walk.specs.Standing.{ahead}
+use Rattle.walk.proofs.Walking.{Rooted, walking-starts, starts-ahead, due-over, walking-over, walking-begins, kept-turn}
 use Rattle.walk.proofs.Walking.{walking-head, walking-heads, walking-own, walking-on}
 use Rattle.replay.specs.declared.Yield.{Yield}
 use Rattle.replay.specs.declared.Yield.the-variants.{Nothing, One}
 use Rattle.replay.specs.declared.Replayed.{Replayed}
-use Rattle.replay.specs.Replays.{writesBy, writesIn, countAfter, replayedIn, told, AtHead, NumberedFrom}
+use Rattle.replay.specs.Replays.{writesBy, writesIn, countAfter, replayedIn, told, AtHead, NumberedFrom, Replaying}
 use Rattle.replay.proofs.Cases.{Stepping, steps-written}
 use Rattle.replay.proofs.Finished.{agrees-now}
 
@@ -50,11 +50,6 @@ count-grows (One (Index x)) c = omega arith
 
 pub count-later : (N n : ℕ) (t work : List ℕ) (c j p : ℕ) (r : Replayed) → r ≡ replayedIn byDart N n t work c j p → c ≤ r .count
 count-later N n t work c j p r e = rw e (count-grows (writesIn byDart N n t work c j p) c)
-
--- where a replay stands: along the walk, and the symbols so far and those left are all
-pub record Replaying (F : Form) (N n : ℕ) (m : List ℕ) (root c : ℕ) (ps : List ℕ) (ss : List Symbol) : Type 0 where
-  pub walking : Walking F N n m root c ps
-  pub left : ss ++ ahead walking .symbols ≡ symbolsOf F byDart N n m root
 
 stepping-same : {N n : ℕ} {m : List ℕ} {w : Walk} {names : List ℕ} (work : List ℕ) {c : ℕ} (j p : ℕ) → w .layout ≡ byDart → w .dim ≡ N → w .darts ≡ n
     → c ≡ w .count

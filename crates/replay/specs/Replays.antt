@@ -15,6 +15,7 @@ use Rattle.rules.specs.Check.{numbering}
 use Rattle.rules.specs.Symbols.{toldSymbol}
 use Rattle.rules.specs.declared.Symbol.the-variants.{New, Border, Index}
 use Rattle.walk.specs.Numbers.{numberIn, dartIn}
+use Rattle.walk.specs.Standing.{Walking, ahead}
 use Rattle.replay.specs.declared.Yield.{Yield}
 use Rattle.replay.specs.declared.Yield.the-variants.{Nothing, One}
 use Rattle.replay.specs.declared.Replayed.{Replayed}
@@ -72,3 +73,8 @@ pub record NumberedFrom (F : Form) (N n : ℕ) (t : List ℕ) (root : ℕ) (work
   pub bodies : Wanted F byDart N n t root
   pub tail : List ℕ
   pub room : work ≡ numbering F byDart N n root t ++ tail
+
+-- where a replay stands: along the walk, and the symbols so far and those left are all
+pub record Replaying (F : Form) (N n : ℕ) (m : List ℕ) (root c : ℕ) (ps : List ℕ) (ss : List walk.Symbol) : Type 0 where
+  pub walking : Walking F N n m root c ps
+  pub left : ss ++ ahead walking .symbols ≡ walk.symbolsOf F byDart N n m root

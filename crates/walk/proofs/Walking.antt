@@ -27,7 +27,7 @@ use Rattle.rules.proofs.Readings.{start-rests}
 use Rattle.rules.proofs.Names.{name, Names, room, deduced-name}
 use Rattle.rules.proofs.Numbering.{After, Kept, after-kept}
 use Rattle.walk.specs.Numbers.{numberIn, dartIn, positionsAfter}
-use Rattle.walk.specs.Standing.{Along, Walking}
+use Rattle.walk.specs.Standing.{Along, Walking, ahead}
 use Rattle.walk.proofs.Rooms.{Agrees, nameless}
 
 -- the names after a step whose partner is x
@@ -157,10 +157,6 @@ resumed-length w names = go (due w)
 record Came (F : Form) (N n : ℕ) (m : List ℕ) (root : ℕ) (w : Walk) (names : List ℕ) : Type 0 where
   inv : Inv w
   after : After F byDart N n m root (steps w) (resume w) (resumeNames w names)
-
--- what it still does
-unfoldable pub ahead : {F : Form} {N n : ℕ} {m : List ℕ} {root c : ℕ} {ps : List ℕ} → Walking F N n m root c ps → Walked
-ahead {F} {N} {n} {m} {root} {c} {ps} G = write (enough N n - steps (G .walk)) m (resume (G .walk)) (resumeNames (G .walk) (G .names))
 
 -- a step is the first of what the walk does, and nothing is done where no queue has a head
 write-next : (f : ℕ) (m : List ℕ) (w w' : Walk) (names names' : List ℕ) (out : List Symbol) → writeStep m w names ≡ Written.wrote out w' names'

@@ -1,6 +1,6 @@
 -- Where the numbering stands on its way, and what it has come to at its end. Its loops go along the walk of the rules step by step and begin each body on
 -- their own account, so between the two the body that is due is not begun yet.
-use Prim.Native.Nat.{ℕ, _≤_, _<_}
+use Prim.Native.Nat.{ℕ, _-_, _≤_, _<_}
 use mathlib.Core.Path.{_≡_}
 use mathlib.Core.Logic.{_≢_}
 use mathlib.Core.Bool.{true}
@@ -11,7 +11,7 @@ use Rattle.rules.specs.declared.Form.the-variants.{Several}
 use Rattle.rules.specs.Lists.{number}
 use Rattle.rules.specs.Bodies.{Apart}
 use Rattle.rules.specs.Map.{byDart, mark, Reached, allRanks}
-use Rattle.rules.specs.Walk.{Walk, start, head, due, resume, Symbol, Written, writeAt, resumeNames, namesOf}
+use Rattle.rules.specs.Walk.{Walk, start, head, due, resume, steps, enough, Symbol, Written, writeAt, resumeNames, Walked, write, namesOf}
 use Rattle.walk.specs.Numbers.{roomOf}
 
 -- a walk over the map m from the root, with the darts of its numbers, as steps and begun bodies have led to it
@@ -28,6 +28,10 @@ pub record Walking (F : Form) (N n : ℕ) (m : List ℕ) (root c : ℕ) (ps : Li
   pub along : Along F N n m root walk names
   pub count : c ≡ walk .count
   pub positions : ps ≡ walk .positions
+
+-- what it still does
+unfoldable pub ahead : {F : Form} {N n : ℕ} {m : List ℕ} {root c : ℕ} {ps : List ℕ} → Walking F N n m root c ps → Walked
+ahead {F} {N} {n} {m} {root} {c} {ps} G = write (enough N n - steps (G .walk)) m (resume (G .walk)) (resumeNames (G .walk) (G .names))
 
 -- where the numbering stands when b bodies are begun; lent is the room that was lent
 pub record Going (F : Form) (N n : ℕ) (m : List ℕ) (root : ℕ) (lent : List ℕ) (b c : ℕ) (ps work : List ℕ) : Type 0 where

@@ -10,27 +10,30 @@ use lib.Dec.{ltb}
 use borrow.Author.Tests.{ltb-true}
 use Rattle.rules.specs.declared.Form.{Form}
 use Rattle.rules.specs.Bodies.{several}
-use Rattle.rules.specs.Map.{byDart}
+use Rattle.rules.specs.Map.{byDart, Limits, Valid}
 use Rattle.rules.specs.declared.Symbol as rules
 use Rattle.rules.specs.declared.Symbol.the-variants.{New, Border, Index}
 use Rattle.rules.specs.Symbols.{toldSymbol}
 use Rattle.rules.specs.Walk.{Symbol, symbolsOf}
 use Rattle.rules.specs.Stream.{code, codes}
-use Rattle.rules.specs.Inner.{Emptied, Lowest, bodyDue}
+use Rattle.rules.specs.Inner.{gone, bound, Emptied, Lowest, bodyDue}
 use Rattle.rules.proofs.Lists.{and-left, and-right}
 use Rattle.rules.proofs.Runs.{codes-append}
 use Rattle.rules.proofs.Streams.{symbols-few}
 use Rattle.walk.specs.Numbers.{positionsAfter}
-use Rattle.walk.proofs.Walking.{Rooted, ahead}
+use Rattle.walk.specs.Standing.{ahead}
+use Rattle.walk.proofs.Walking.{Rooted, inv-now}
 use Rattle.replay.specs.declared.Yield.{Yield}
 use Rattle.replay.specs.declared.Yield.the-variants.{Nothing, One}
 use Rattle.replay.specs.declared.Replayed.{Replayed}
 use Rattle.replay.specs.Replays.{writesIn, replayedIn, told, NumberedFrom}
-use Rattle.replay.proofs.Replays.{Replaying, index-below, replay-starts, replay-ends, replay-begins, replay-goes}
+use Rattle.replay.proofs.Finished.{rooted-by}
+use Rattle.replay.proofs.Replays.{index-below, count-later, replay-starts, replay-ends, replay-begins, replay-goes}
 use Rattle.pen.specs.declared.Pen.{Pen}
 use Rattle.pen.specs.Pens.{PenFits, Put, IndexFits}
 use Rattle.pen.proofs.Laws.{put-none, put-both}
 use Rattle.writer.specs.Yields.{YieldFits}
+use Rattle.writer.specs.Written.{Writing, Underway, WentOn}
 
 -- what a step yields, over what the calls answered
 pub put-nothing : {s : Yield} → s ≡ Nothing → (start : ℕ) (pen : Pen) (out : List ℕ) → Put (codes (told s)) start pen pen out out
@@ -59,12 +62,6 @@ due-says F N n j c e =
     let l = and-left (ltb N j && ltb c n) (several F) e in
     (ltb-true N j (and-left (ltb N j) (ltb c n) l), ltb-true c n (and-right (ltb N j) (ltb c n) l))
 
--- where the writer stands: the replay has yielded some symbols, and their codes were put
-pub record Writing (F : Form) (N n : ℕ) (m : List ℕ) (root c : ℕ) (ps : List ℕ) (start : ℕ) (pen r : Pen) (out out' : List ℕ) : Type 0 where
-  pub symbols : List Symbol
-  pub replaying : Replaying F N n m root c ps symbols
-  pub put : Put (codes symbols) start pen r out out'
-
 module _ {F : Form} {N n : ℕ} {m : List ℕ} {root : ℕ} (P : Rooted N n m root) {work : List ℕ} (Q : NumberedFrom F N n m root work) {start : ℕ} {pen : Pen}
     {out : List ℕ} where
   pub writing-starts : Writing F N n m root 1 (0 ∷ 0 ∷ 0 ∷ 0 ∷ 0 ∷ 0 ∷ 0 ∷ []) start pen pen out out
@@ -79,6 +76,14 @@ module _ {F : Form} {N n : ℕ} {m : List ℕ} {root : ℕ} (P : Rooted N n m ro
         sym (length-append (codes (W .symbols)) _) ∙ ap length (sym (codes-append (W .symbols) _) ∙ ap codes (W .replaying .left)) in
         let l : length (codes (W .symbols)) + 14 ≤ 401422 = omega (arith, symbols-few F byDart N n m root (P .ranks) (P .small) (P .dart) (P .valid)) in
         W .put .fits 14 (record { room = omega (arith, h .room); inByte = h .inByte; holds = h .holds })
+
+    -- where L0 is empty, all that are numbered have left it
+    pub all-left : (j : ℕ) → Emptied c ps j → 0 < j → getD ps 0 0 ≡ c
+    unfolding gone bound
+    all-left j E h =
+        let G = W .replaying .walking in
+        let f : getD ps 0 0 ≤ c = rw (G .count, G .positions) (inv-now P G .shape .fall 0 (omega arith)) in
+        omega (arith, E .lower 0 h)
 
     -- the end, where all queues are empty and no body is due: all symbols were put
     pub writing-ends : (j : ℕ) → Emptied c ps j → N < j → bodyDue F N n j c ≡ false → Put (codes (symbolsOf F byDart N n m root)) start pen r out o
@@ -97,3 +102,19 @@ module _ {F : Form} {N n : ℕ} {m : List ℕ} {root : ℕ} (P : Rooted N n m ro
         let x = rw ek at u in
         let put' = rw (← codes-append (W .symbols) (told s)) at (put-both (W .put) x) in
         rw (ek, ep) (record { symbols = W .symbols ++ told s; replaying = replay-goes P Q (W .replaying) j e; put = put' })
+
+-- a body is gone through from wherever the writer stood
+pub went-none : (N n : ℕ) (m work : List ℕ) (c : ℕ) (ps : List ℕ) (start : ℕ) (pen : Pen) (out : List ℕ) → WentOn N n m work c ps start pen out c ps pen out
+went-none N n m work c ps start pen out = record { writing = λ F root first lent Q W. W; grows = omega arith }
+
+module _ {N n : ℕ} {m : List ℕ} (L : Limits N n m) (A : Valid byDart N n m) {work : List ℕ} {start : ℕ} {c0 : ℕ} {ps0 : List ℕ} {pen0 : Pen} {out0 : List ℕ} {c : ℕ}
+    {ps : List ℕ}
+    {pen : Pen}
+    {out : List ℕ}
+    (W : WentOn N n m work c0 ps0 start pen0 out0 c ps pen out) where
+  pub went-goes : (j : ℕ) → Lowest N c ps j → (k : Replayed) → k ≡ replayedIn byDart N n m work c j (getD ps j 0) → {ps' : List ℕ} → ps' ≡ positionsAfter j ps
+      → {q : Pen} {o' : List ℕ} → Put (codes (told (k .written))) start pen q out o' → WentOn N n m work c0 ps0 start pen0 out0 (k .count) ps' q o'
+  went-goes j e k ek ep u = record {
+    writing = λ F root first lent Q Y. writing-goes (rooted-by L A Q) Q (W .writing F root first lent Q Y) j e k ek ep u;
+    grows = omega (arith, W .grows, count-later N n m work c j (getD ps j 0) k ek);
+  }

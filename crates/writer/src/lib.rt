@@ -5,9 +5,10 @@ use replay::Yield;
 use rules::Form;
 use rules::WriteAnswer;
 ghost use mathlib.Core.Path.{_≡_};
-ghost use Prim.Native.Nat.{ℕ, _*_, _≤_};
-ghost use lib.ListN.{length};
+ghost use Prim.Native.Nat.{ℕ, _+_, _*_, _≤_};
+ghost use lib.ListN.{length, getD};
 ghost use Rattle.rules.specs.Bodies.{firstBits};
+ghost use Rattle.rules.specs.Inner.{Emptied};
 ghost use Rattle.rules.specs.Map.{byDart, Limits, Valid};
 ghost use Rattle.rules.specs.Walk.{symbolsOf};
 ghost use Rattle.rules.specs.Stream.{codes, filled};
@@ -17,6 +18,7 @@ ghost use mathlib.Core.List.{List};
 ghost use Rattle.replay.specs.Replays.{told, NumberedFrom};
 ghost use Rattle.pen.specs.Pens.{PenFits, Holds, Put, penned};
 ghost use Rattle.writer.specs.Yields.{YieldFits};
+ghost use Rattle.writer.specs.Written.{Underway, WentOn};
 
 // What a step of the replay yields, put: a symbol's code, or nothing.
 pub fn put_yield(pen: Pen, s: Yield, start: usize, out: &mut [u8]) -> Pen
@@ -29,9 +31,50 @@ pub fn put_yield(pen: Pen, s: Yield, start: usize, out: &mut [u8]) -> Pen
     }
 }
 
-// The symbols of the whole walk. Positions say how many darts have left each queue. The queues below Lj are empty, so
-// Lj holds the numbers from position j up to the count. The numbering is finished: the dart with which the next body
-// begins has the next number already.
+// The symbols of a body, from where its first dart has entered L0 until all queues are empty. Positions say how many
+// darts have left each queue; at the end all that are numbered have left L0. The queues below Lj are empty, so Lj holds
+// the numbers from position j up to the count.
+pub fn put_body(
+    tables: &[u16],
+    work: &[u16],
+    positions: &mut [u16],
+    dim: usize,
+    darts: usize,
+    from: u16,
+    pen: Pen,
+    start: usize,
+    out: &mut [u8],
+) -> Pen
+    requires { ⌜ Limits dim darts (now tables) × Valid byDart dim darts (now tables) × (2 * darts ≤ length (now work))
+        × (length (now positions) ≡ 7)
+        × Underway dim darts (now tables) (now work) from (now positions) start pen (now out) ⌝ }
+    ensures { λ q. let count = getD (now (positions .exit)) 0 0 in ⌜ WentOn dim darts (now (tables .entry))
+        (now (work .entry)) from (now (positions .entry)) start pen (now (out .entry)) count (now (positions .exit)) q
+        (now (out .exit)) × Emptied count (now (positions .exit)) (dim + 1) ⌝ }
+{
+    let mut last = pen;
+    let mut count = from;
+    let mut j = 0;
+    while j <= dim {
+        if count <= positions[j] {
+            j += 1;
+        } else {
+            let s = replay::step(tables, work, positions, dim, darts, j, count);
+            let written = s.written;
+            last = put_yield(last, written, start, out);
+            let next = s.count;
+            // a new dart enters L0, so the lowest queue is looked for from there again
+            if next != count {
+                j = 0;
+            }
+            count = next;
+        }
+    }
+    last
+}
+
+// The symbols of the whole walk, body by body. The numbering is finished: the dart with which the next body begins has
+// the next number already, and enters L0 without a symbol.
 pub fn put_symbols(
     form: Form,
     tables: &[u16],
@@ -49,28 +92,20 @@ pub fn put_symbols(
         (now (out .exit))) ⌝ }
 {
     let mut positions = [0u16; 7];
-    let mut last = pen;
-    let mut count = 1;
-    let mut j = 0;
-    while j <= dim {
-        if count <= positions[j] {
-            j += 1;
-            // all queues are empty and darts remain, so that dart enters L0, without a symbol
-            if rules::body_due(form, dim, darts, j, count) {
-                count += 1;
-                j = 0;
-            }
-        } else {
-            let s = replay::step(tables, work, &mut positions, dim, darts, j, count);
-            let written = s.written;
-            last = put_yield(last, written, start, out);
-            let next = s.count;
-            // a new dart enters L0, so the lowest queue is looked for from there again
-            if next != count {
-                j = 0;
-            }
-            count = next;
-        }
+    let mut last = put_body(tables, work, &mut positions, dim, darts, 1, pen, start, out);
+    while rules::body_due(form, dim, darts, dim + 1, positions[0]) {
+        let from = positions[0] + 1;
+        last = put_body(
+            tables,
+            work,
+            &mut positions,
+            dim,
+            darts,
+            from,
+            last,
+            start,
+            out,
+        );
     }
     last
 }
