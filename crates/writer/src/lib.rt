@@ -92,8 +92,9 @@ pub fn put_symbols(
         (now (out .exit))) ⌝ }
 {
     let mut positions = [0u16; 7];
-    let mut last = put_body(tables, work, &mut positions, dim, darts, 1, pen, start, out);
-    while rules::body_due(form, dim, darts, dim + 1, positions[0]) {
+    let mut last = pen;
+    let mut due = true;
+    while due {
         let from = positions[0] + 1;
         last = put_body(
             tables,
@@ -106,6 +107,7 @@ pub fn put_symbols(
             start,
             out,
         );
+        due = rules::body_due(form, dim, darts, dim + 1, positions[0]);
     }
     last
 }
