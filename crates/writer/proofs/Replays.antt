@@ -33,7 +33,7 @@ use Rattle.pen.specs.declared.Pen.{Pen}
 use Rattle.pen.specs.Pens.{PenFits, Put, IndexFits}
 use Rattle.pen.proofs.Laws.{put-none, put-both}
 use Rattle.writer.specs.Yields.{YieldFits}
-use Rattle.writer.specs.Written.{Writing, Underway, WentOn}
+use Rattle.writer.specs.Written.{Writing, WentOn}
 
 -- what a step yields, over what the calls answered
 pub put-nothing : {s : Yield} → s ≡ Nothing → (start : ℕ) (pen : Pen) (out : List ℕ) → Put (codes (told s)) start pen pen out out
@@ -107,10 +107,7 @@ module _ {F : Form} {N n : ℕ} {m : List ℕ} {root : ℕ} (P : Rooted N n m ro
 pub went-none : (N n : ℕ) (m work : List ℕ) (c : ℕ) (ps : List ℕ) (start : ℕ) (pen : Pen) (out : List ℕ) → WentOn N n m work c ps start pen out c ps pen out
 went-none N n m work c ps start pen out = record { writing = λ F root first lent Q W. W; grows = omega arith }
 
-module _ {N n : ℕ} {m : List ℕ} (L : Limits N n m) (A : Valid byDart N n m) {work : List ℕ} {start : ℕ} {c0 : ℕ} {ps0 : List ℕ} {pen0 : Pen} {out0 : List ℕ} {c : ℕ}
-    {ps : List ℕ}
-    {pen : Pen}
-    {out : List ℕ}
+module _ {N n : ℕ} {m : List ℕ} (L : Limits N n m) (A : Valid byDart N n m) {start c0 c : ℕ} {work ps0 ps out0 out : List ℕ} {pen0 pen : Pen}
     (W : WentOn N n m work c0 ps0 start pen0 out0 c ps pen out) where
   pub went-goes : (j : ℕ) → Lowest N c ps j → (k : Replayed) → k ≡ replayedIn byDart N n m work c j (getD ps j 0) → {ps' : List ℕ} → ps' ≡ positionsAfter j ps
       → {q : Pen} {o' : List ℕ} → Put (codes (told (k .written))) start pen q out o' → WentOn N n m work c0 ps0 start pen0 out0 (k .count) ps' q o'

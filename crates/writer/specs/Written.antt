@@ -25,7 +25,8 @@ pub record Underway (N n : ℕ) (m work : List ℕ) (c : ℕ) (ps : List ℕ) (s
   pub writing : Writing form N n m root c ps start first pen lent out
 
 -- it has gone on in the same body from wherever it stood
-pub record WentOn (N n : ℕ) (m work : List ℕ) (c : ℕ) (ps : List ℕ) (start : ℕ) (pen : Pen) (out : List ℕ) (c' : ℕ) (ps' : List ℕ) (pen' : Pen) (out' : List ℕ) : Type 0 where
+pub record WentOn (N n : ℕ) (m work : List ℕ) (c : ℕ) (ps : List ℕ) (start : ℕ) (pen : Pen) (out : List ℕ) (c' : ℕ) (ps' : List ℕ) (pen' : Pen)
+    (out' : List ℕ) : Type 0 where
   pub writing : (F : Form) (root : ℕ) (first : Pen) (lent : List ℕ) → NumberedFrom F N n m root work → Writing F N n m root c ps start first pen lent out
       → Writing F N n m root c' ps' start first pen' lent out'
   pub grows : c ≤ c'

@@ -1,6 +1,6 @@
 -- `writer::put_body` meets its contract: the replay goes along the walk, the queues below j are empty, and what was put are the codes of the symbols so far. A
 -- turn makes a step or goes on to the next rank. Assumes nothing.
-use Prim.Native.Nat.{ℕ, _+_, _*_, _-_, _≤_, _<_}
+use Prim.Native.Nat.{_+_, _*_, _-_, _≤_, _<_}
 use mathlib.Core.Path.{_≡_, refl, ap, _∙_}
 use native.Mathlib.Omega.{arith}
 use lib.ListN.{length, getD}

@@ -1,6 +1,6 @@
 -- `writer::put_symbols` meets its contract: before each turn a body is begun, and what was put are the codes of the symbols of the bodies before it; at the end
 -- none is due. Assumes nothing.
-use Prim.Native.Nat.{ℕ, _+_, _-_, _≤_, _<_}
+use Prim.Native.Nat.{ℕ, _+_, _-_, _<_}
 use mathlib.Core.Path.{_≡_, refl, sym, _∙_}
 use mathlib.Core.Bool.{Bool, true, false}
 use native.Mathlib.Omega.{arith}
@@ -88,8 +88,8 @@ loop-less : tie.Need-loop-less Inv-loop μ-loop
 loop-less c = let b = body c in omega (arith, below (turn (b .before)), b .put-body .ensures .0 .grows)
 
 -- where the writer stands when that body is done
-stands : (c : tie.After-put-body Inv-loop μ-loop) → let a = start (turn (c .before) .before) .args in let k = c .put-body in let ps = k .last .1 .1 .0 in (root : ℕ)
-    → NumberedFrom (a .form) (a .dim) (a .darts) (a .tables .now) root (a .work .now)
+stands : (c : tie.After-put-body Inv-loop μ-loop) → let a = start (turn (c .before) .before) .args in let k = c .put-body in let ps = k .last .1 .1 .0 in
+    (root : ℕ) → NumberedFrom (a .form) (a .dim) (a .darts) (a .tables .now) root (a .work .now)
     → Writing (a .form) (a .dim) (a .darts) (a .tables .now) root (getD ps 0 0) ps (a .start) (a .pen) (k .result) (a .out .now)
     (k .last .1 .1 .1 .1 .1 .1 .1 .1 .0)
 stands c root q =
