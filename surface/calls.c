@@ -931,15 +931,14 @@ static struct faulty post_faults(int mended)
 }
 
 /* Of several faults the first in the order is answered, each test covering the whole tables before the next. */
-static void first_fault_is_answered(void)
+static void faults_in_order(int faults)
 {
     static const uint32_t places[] = { 0, 0, 0, 0, 0, 17, 10, 2, 4 };
     struct faulty f;
     uint32_t length;
     int mended;
-    begin("first fault");
     LEND(out, 9);
-    for (mended = 0; mended < 9; mended++) {
+    for (mended = 0; mended < faults; mended++) {
         f = post_faults(mended);
         EXPECT(call_check(f.m, f.root), (uint32_t)mended + 1, places[mended]);
         EXPECT(call_write(f.m, f.root, f.start), (uint32_t)mended + 1, places[mended]);
@@ -948,12 +947,19 @@ static void first_fault_is_answered(void)
         else
             EXPECT(call_report(f.m), KZ_ENTRY, 17);
     }
-    f = post_faults(9);
+    f = post_faults(faults);
     EXPECT(call_check(f.m, f.root), 0, 0);
     EXPECT(call_report(f.m), 0, 0);
     EXPECT(call_write(f.m, f.root, 0), 0, 0);
     length = answer[3];
     EXPECT(call_write(f.m, f.root, f.start), KZ_PAST_END, length);
+}
+
+static void first_fault_is_answered(void)
+{
+    struct faulty f;
+    begin("first fault");
+    faults_in_order(9);
     f = post_faults(10);
     EXPECT(call_write(f.m, f.root, f.start), 0, 0);
 }
@@ -961,28 +967,10 @@ static void first_fault_is_answered(void)
 /* The same in the form of several bodies, which that of the fault 9 is: then 10 is left, and with 9 mended 30. */
 static void first_fault_of_several_bodies(void)
 {
-    static const uint32_t places[] = { 0, 0, 0, 0, 0, 17, 10, 2 };
     struct faulty f;
-    uint32_t length;
-    int mended;
     begin("first fault, several bodies");
     form = SEVERAL_BODIES;
-    LEND(out, 9);
-    for (mended = 0; mended < 8; mended++) {
-        f = post_faults(mended);
-        EXPECT(call_check(f.m, f.root), (uint32_t)mended + 1, places[mended]);
-        EXPECT(call_write(f.m, f.root, f.start), (uint32_t)mended + 1, places[mended]);
-        if (mended != 4)
-            EXPECT(call_report(f.m), (uint32_t)mended + 1, places[mended]);
-        else
-            EXPECT(call_report(f.m), KZ_ENTRY, 17);
-    }
-    f = post_faults(8);
-    EXPECT(call_check(f.m, f.root), 0, 0);
-    EXPECT(call_report(f.m), 0, 0);
-    EXPECT(call_write(f.m, f.root, 0), 0, 0);
-    length = answer[3];
-    EXPECT(call_write(f.m, f.root, f.start), KZ_PAST_END, length);
+    faults_in_order(8);
     f = post_faults(9);
     EXPECT(call_check(f.m, f.root), KZ_ONE_BODY, 0);
     EXPECT(call_report(f.m), KZ_ONE_BODY, 0);

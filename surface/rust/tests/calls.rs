@@ -841,10 +841,9 @@ fn post_faults(lent: &mut Lent, mended: usize) -> (Map, usize, usize) {
 }
 
 /// Of several faults the first in the order is answered, each test covering the whole tables before the next.
-fn first_fault_is_answered(lent: &mut Lent) {
-    lent.begin("first fault");
+fn faults_in_order(lent: &mut Lent, faults: usize) {
     lent.out.lend(9);
-    for (mended, place) in [0, 0, 0, 0, 0, 17, 10, 2, 4].into_iter().enumerate() {
+    for (mended, place) in [0, 0, 0, 0, 0, 17, 10, 2, 4].into_iter().take(faults).enumerate() {
         let number = mended as u32 + 1;
         let (m, root, start) = post_faults(lent, mended);
         let checked = lent.check(m, root);
@@ -854,13 +853,18 @@ fn first_fault_is_answered(lent: &mut Lent) {
         let reported = lent.report(m);
         lent.expect(reported, if number == 5 { refused(6, 17) } else { refused(number, place) });
     }
-    let (m, root, start) = post_faults(lent, 9);
+    let (m, root, start) = post_faults(lent, faults);
     accepts(lent, m, root);
     let reported = lent.report(m);
     lent.must(reported.is_ok(), "the report is given");
     let length = lent.write(m, root, 0).unwrap().length;
     let written = lent.write(m, root, start);
     lent.expect(written, refused(10, length));
+}
+
+fn first_fault_is_answered(lent: &mut Lent) {
+    lent.begin("first fault");
+    faults_in_order(lent, 9);
     let (m, root, start) = post_faults(lent, 10);
     let written = lent.write(m, root, start);
     lent.must(written.is_ok(), "nothing is left to mend");
@@ -870,24 +874,7 @@ fn first_fault_is_answered(lent: &mut Lent) {
 fn first_fault_of_several_bodies(lent: &mut Lent) {
     lent.begin("first fault, several bodies");
     lent.form = Form::SeveralBodies;
-    lent.out.lend(9);
-    for (mended, place) in [0, 0, 0, 0, 0, 17, 10, 2].into_iter().enumerate() {
-        let number = mended as u32 + 1;
-        let (m, root, start) = post_faults(lent, mended);
-        let checked = lent.check(m, root);
-        lent.expect(checked, refused(number, place));
-        let written = lent.write(m, root, start);
-        lent.expect(written, refused(number, place));
-        let reported = lent.report(m);
-        lent.expect(reported, if number == 5 { refused(6, 17) } else { refused(number, place) });
-    }
-    let (m, root, start) = post_faults(lent, 8);
-    accepts(lent, m, root);
-    let reported = lent.report(m);
-    lent.must(reported.is_ok(), "the report is given");
-    let length = lent.write(m, root, 0).unwrap().length;
-    let written = lent.write(m, root, start);
-    lent.expect(written, refused(10, length));
+    faults_in_order(lent, 8);
     let (m, root, start) = post_faults(lent, 9);
     form_refuses(lent, m, root, 30, 0);
     let written = lent.write(m, root, start);
