@@ -72,6 +72,13 @@ pub due-past : (w : Walk) → Shape w → (j : ℕ) → Emptied (w .count) (w .p
 unfolding due isNone bodyDue
 due-past w s j E h = rw (head-past w s j E h, lt-ltb (w .dim) j h)
 
+-- they say so past the last rank only, and while darts remain
+pub past-says : (F : Form) (N n j count : ℕ) → bodyDue F N n j count ≡ true → (N < j) × (count < n)
+unfolding bodyDue
+past-says F N n j count e =
+    let l = and-left (ltb N j && ltb count n) (several F) e in
+    (ltb-true N j (and-left (ltb N j) (ltb count n) l), ltb-true count n (and-right (ltb N j) (ltb count n) l))
+
 -- where none is due, nothing is begun
 pub rested : (w : Walk) → due w ≡ false → resume w ≡ w
 unfolding resume

@@ -3,12 +3,12 @@
 use Prim.Native.Nat.{ℕ, suc, _+_, _*_, _-_, _≤_, _<_}
 use mathlib.Core.Path.{_≡_, refl, ap, sym, _∙_}
 use mathlib.Core.Logic.{_≢_, _⊎_, inl, inr}
-use mathlib.Core.Bool.{Bool, true, false, _&&_, cond}
+use mathlib.Core.Bool.{Bool, true, false, cond}
 use mathlib.Core.List.{List}
 use native.Mathlib.Omega.{arith}
 use lib.ListN.{length, getD}
 use lib.Dec.{ltb}
-use borrow.Author.Tests.{ltb-true, ltb-false}
+use borrow.Author.Tests.{ltb-false}
 use Rattle.rules.specs.declared.Form.{Form}
 use Rattle.rules.specs.declared.Form.the-variants.{One}
 use Rattle.rules.specs.Lists.{sum}
@@ -20,9 +20,8 @@ use Rattle.rules.specs.Reading.{Run, Step, stepAt, resuming, step, onward, run,
 use Rattle.rules.specs.Session.{walkAt}
 use Rattle.rules.specs.Inner.{Emptied, Lowest, Inv, Asks, bodyDue}
 use Rattle.rules.specs.declared.Stand.{Stand}
-use Rattle.rules.proofs.Lists.{and-left, and-right}
 use Rattle.rules.proofs.Lowest.{emptied-none, emptied-next, head-lowest, head-past}
-use Rattle.rules.proofs.Bodies.{headed-rests, due-past, one-rests, rested, begun, resume-inv, resume-steps, resume-rests}
+use Rattle.rules.proofs.Bodies.{headed-rests, due-past, past-says, one-rests, rested, begun, resume-inv, resume-steps, resume-rests}
 use Rattle.rules.proofs.Moves.{Moved, moved, step-move, one-step}
 use Rattle.rules.proofs.Runs.{total, moved-total, steps-total, fuel, Stopped, stopped}
 use Rattle.symbols.specs.declared.Cursor.{Cursor}
@@ -38,16 +37,6 @@ use Rattle.runs.specs.declared.Signal.the-variants.{Ended, Waits, Refuse
 use Rattle.runs.specs.Turns.{Ready, toldTurn, Again, Turns}
 use Rattle.runs.specs.Runs.{searchAt, pastOf, signalRun, Runs}
 use Rattle.runs.proofs.Turns.{inv-in, ready-one}
-
--- where a body is due a dart is left
-pub due-left : (F : Form) (N n j k : ℕ) → bodyDue F N n j k ≡ true → k < n
-unfolding bodyDue
-due-left F N n j k e = ltb-true k n (and-right (ltb N j) (ltb k n) (and-left (ltb N j && ltb k n) (several F) e))
-
--- and no rank
-due-ranks : (F : Form) (N n j k : ℕ) → bodyDue F N n j k ≡ true → N < j
-unfolding bodyDue
-due-ranks F N n j k e = ltb-true N j (and-left (ltb N j) (ltb k n) (and-left (ltb N j && ltb k n) (several F) e))
 
 -- the walk of a stand in a form, with a search's count and bodies
 abbrev walkIn : ℕ → ℕ → Form → Search → List ℕ → List ℕ → Walk
@@ -186,7 +175,7 @@ module _ {N n : ℕ} {s0 : Stand} {c0 : Cursor} {t0 page : List ℕ} {a : Search
       begunAt = searchAt 0 (a .count + 1) (a .bodies + 1)
 
       past-last : N < a .rank + 1
-      past-last = due-ranks (s0 .form) N n (a .rank + 1) (a .count) d
+      past-last = past-says (s0 .form) N n (a .rank + 1) (a .count) d .0
 
       is-due : due here ≡ true
       is-due = unfold walkAt in due-past here (g .inv .shape) (a .rank + 1) next past-last ∙ d
@@ -249,7 +238,7 @@ module _ {N n : ℕ} {s0 : Stand} {c0 : Cursor} {t0 page : List ℕ} {a : Search
 
           go : (x : Bool) → bodyDue (s0 .form) N n (a .rank + 1) (a .count) ≡ x
               → passesLeft N n (cond x (searchAt 0 (a .count + 1) (a .bodies + 1)) (searchAt (a .rank + 1) (a .count) (a .bodies))) ps < passesLeft N n a ps
-          go true d = let l = due-left (s0 .form) N n (a .rank + 1) (a .count) d in omega (arith, ranks)
+          go true d = let l = past-says (s0 .form) N n (a .rank + 1) (a .count) d .1 in omega (arith, ranks)
           go false d = omega (arith, ranks)
 
   -- the queue of the rank isn't empty: its head is next

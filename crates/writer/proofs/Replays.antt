@@ -2,14 +2,11 @@
 -- pen's Laws.
 use Prim.Native.Nat.{ℕ, _+_, _≤_, _<_}
 use mathlib.Core.Path.{_≡_, ap, sym, _∙_}
-use mathlib.Core.Bool.{true, false, _&&_}
+use mathlib.Core.Bool.{true, false}
 use mathlib.Core.List.{List, [], _∷_, _++_, append-nil}
 use native.Mathlib.Omega.{arith}
 use lib.ListN.{length, getD, length-append}
-use lib.Dec.{ltb}
-use borrow.Author.Tests.{ltb-true}
 use Rattle.rules.specs.declared.Form.{Form}
-use Rattle.rules.specs.Bodies.{several}
 use Rattle.rules.specs.Map.{byDart, Limits, Valid}
 use Rattle.rules.specs.declared.Symbol as rules
 use Rattle.rules.specs.declared.Symbol.the-variants.{New, Border, Index}
@@ -17,7 +14,6 @@ use Rattle.rules.specs.Symbols.{toldSymbol}
 use Rattle.rules.specs.Walk.{Symbol, symbolsOf}
 use Rattle.rules.specs.Stream.{code, codes}
 use Rattle.rules.specs.Inner.{gone, bound, Emptied, Lowest, bodyDue}
-use Rattle.rules.proofs.Lists.{and-left, and-right}
 use Rattle.rules.proofs.Runs.{codes-append}
 use Rattle.rules.proofs.Streams.{symbols-few}
 use Rattle.walk.specs.Numbers.{positionsAfter}
@@ -54,13 +50,6 @@ yield-fits N n t work c j p h Nothing e = tt
 yield-fits N n t work c j p h (One New) e = tt
 yield-fits N n t work c j p h (One Border) e = tt
 yield-fits N n t work c j p h (One (Index x)) e = omega (arith, index-below N n t work c j p x (sym e))
-
--- a body is due past the last rank only, and while darts remain
-pub due-says : (F : Form) (N n j c : ℕ) → bodyDue F N n j c ≡ true → (N < j) × (c < n)
-unfolding bodyDue
-due-says F N n j c e =
-    let l = and-left (ltb N j && ltb c n) (several F) e in
-    (ltb-true N j (and-left (ltb N j) (ltb c n) l), ltb-true c n (and-right (ltb N j) (ltb c n) l))
 
 module _ {F : Form} {N n : ℕ} {m : List ℕ} {root : ℕ} (P : Rooted N n m root) {work : List ℕ} (Q : NumberedFrom F N n m root work) {start : ℕ} {pen : Pen}
     {out : List ℕ} where

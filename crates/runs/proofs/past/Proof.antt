@@ -2,8 +2,8 @@
 use mathlib.Core.Path.{sym, _∙_}
 use native.Mathlib.Omega.{arith}
 use borrow.Author.Needs.{needs}
+use Rattle.rules.proofs.Bodies.{past-says}
 use Rattle.runs.specs.Runs.{pastOf}
-use Rattle.runs.proofs.Runs.{due-left}
 use Rattle.runs.proofs.past.Statement.{statement}
 use Rattle.runs.proofs.past.Tie as tie
 
@@ -14,10 +14,10 @@ body-due-requires : tie.Need-body-due-requires
 body-due-requires c κs = search needs
 
 add-search-at : tie.Need-add-search-at
-add-search-at c = let i = c .before in let l = due-left _ _ _ _ _ (sym (i .before .body-due .ensures) ∙ i .if1 .taken) in omega arith
+add-search-at c = let i = c .before in let l = past-says _ _ _ _ _ (sym (i .before .body-due .ensures) ∙ i .if1 .taken) .1 in omega arith
 
 add-search-at-2 : tie.Need-add-search-at-2
-add-search-at-2 c = let i = c .before .before in let l = due-left _ _ _ _ _ (sym (i .before .body-due .ensures) ∙ i .if1 .taken) in omega arith
+add-search-at-2 c = let i = c .before .before in let l = past-says _ _ _ _ _ (sym (i .before .body-due .ensures) ∙ i .if1 .taken) .1 in omega arith
 
 search-at-requires : tie.Need-search-at-requires
 search-at-requires c κs = search needs

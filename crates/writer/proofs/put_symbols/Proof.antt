@@ -10,12 +10,13 @@ use Rattle.rules.specs.Map.{byDart}
 use Rattle.rules.specs.Walk.{symbolsOf}
 use Rattle.rules.specs.Stream.{codes}
 use Rattle.rules.specs.Inner.{bodyDue}
+use Rattle.rules.proofs.Bodies.{past-says}
 use Rattle.walk.proofs.Walking.{Rooted}
 use Rattle.replay.specs.Replays.{NumberedFrom}
 use Rattle.replay.proofs.Finished.{rooted-by}
 use Rattle.pen.specs.Pens.{Put}
 use Rattle.writer.specs.Written.{Writing}
-use Rattle.writer.proofs.Replays.{due-says, writing-starts, writing-begins, writing-ends}
+use Rattle.writer.proofs.Replays.{writing-starts, writing-begins, writing-ends}
 use Rattle.writer.proofs.put_symbols.Statement.{statement}
 use Rattle.writer.proofs.put_symbols.Tie as tie
 
@@ -110,7 +111,7 @@ loop-again c =
     let e = b .put-body .ensures .1 in (
       search needs,
       search needs,
-      λ o. due-says (a .form) (a .dim) (a .darts) (a .dim + 1) _ (answered c true o) .1,
+      λ o. past-says (a .form) (a .dim) (a .darts) (a .dim + 1) _ (answered c true o) .1,
       λ root q. (
         λ o. writing-begins (rooted s root q) q (stands b root q) (a .dim + 1) e (omega arith) (answered c true o),
         λ o. writing-ends (rooted s root q) q (stands b root q) (a .dim + 1) e (omega arith) (answered c false o),
