@@ -1,5 +1,7 @@
 // The map of dimension 2 that a text's corners make, out of what was kept of each: its own vertex, its twin and how
 // many corners of its face are left with it.
+#![tactic(auto)]
+
 ghost use Rattle.std.specs.Prelude.{◌≡◌, cond, ◌+◌, ◌*◌, ◌-◌, ◌≤◌, ◌<◌, eqb, length};
 ghost use Rattle.build.specs.Parts.{joined_at, six_put, Lefts, Builds};
 
@@ -28,7 +30,7 @@ fn after(first: usize, k: usize, left: usize) -> usize
 }
 
 // a2 of a corner's own dart, and of its far one.
-#[derive(Drop)]
+#[derive(Clone, Copy)]
 pub struct Joined {
     pub own: usize,
     pub far: usize,

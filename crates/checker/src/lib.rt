@@ -1,5 +1,7 @@
 // The check of posted tables (refusals 1 to 9, and 30): the sizes, the tables, the numbering, and whether it has found
 // the bodies that the form wants.
+#![tactic(auto)]
+
 ghost use Rattle.std.specs.Prelude.{◌≡◌, ◌≤◌, length};
 ghost use Rattle.rules.specs.Lists.{first};
 ghost use Rattle.rules.specs.Map.{by_dart, Limits};

@@ -1,4 +1,6 @@
 // The corners of a text's faces one by one: each with its side, and the face that it is of.
+#![tactic(auto)]
+
 ghost use Rattle.std.specs.Prelude.{◌≡◌, cond, ◌+◌, ◌<◌, leb};
 ghost use Rattle.rules.specs.Lists.{count_below};
 ghost use Rattle.text.specs.Leaves.{Fresh};
@@ -6,7 +8,7 @@ ghost use Rattle.corners.specs.Steps.{begun, opened_of, step_of, last_at};
 
 // A position among the corners: how many corners of the face are left (0: a face begins), its first vertex and this
 // corner's.
-#[derive(Drop)]
+#[derive(Clone, Copy)]
 pub struct Position {
     pub at: usize,
     pub left: u32,
@@ -15,7 +17,7 @@ pub struct Position {
 }
 
 // A corner's side, how many corners of its face are left with it, and the next corner.
-#[derive(Drop)]
+#[derive(Clone, Copy)]
 pub struct Step {
     pub own: u32,
     pub far: u32,

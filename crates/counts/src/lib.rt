@@ -1,4 +1,6 @@
 // What is counted in a map: the cells of each rank, by floods over lent work room.
+#![tactic(auto)]
+
 ghost use Rattle.std.specs.Prelude.{◌≡◌, ◌+◌, ◌*◌, ◌≤◌, ◌<◌, length, drop};
 ghost use Rattle.rules.specs.Map.{by_dart, Limits, Valid};
 ghost use Rattle.rules.specs.Report.{cell_counts};

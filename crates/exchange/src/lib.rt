@@ -1,5 +1,7 @@
 // The surface for C: exported functions on plain numbers and slices over the library's calls. Each returns the refusal
 // number; the whole answer goes to the answer room. A session is kept as stored numbers in the caller's own record.
+#![tactic(auto)]
+
 ghost use Rattle.std.specs.Prelude.{◌≡◌, get_or};
 ghost use Rattle.rules.specs.declared.Form.TheVariants.{One, Several};
 ghost use Rattle.rules.specs.Map.{by_dart};

@@ -1,4 +1,6 @@
 // Reading face files (OFF text) into a map of dimension 2: 26 to 29, then 2, 3, 4 and the check of the map.
+#![tactic(auto)]
+
 ghost use Rattle.std.specs.Prelude.{◌≡◌, ◌*◌, ◌≤◌, ◌<◌, length};
 ghost use Rattle.rules.specs.declared.Form.TheVariants.{One};
 ghost use Rattle.rules.specs.Map.{by_dart};

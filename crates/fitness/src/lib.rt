@@ -1,4 +1,6 @@
 // Fitness of a session, as document 01 lists it: any record, any tables.
+#![tactic(auto)]
+
 ghost use Rattle.std.specs.Prelude.{◌≡◌, ◌&&◌, ◌||◌, ℕ, suc, ◌+◌, ◌≤◌, ◌^◌, length, get_or, eqb, ltb, leb};
 ghost use Rattle.rules.specs.Lists.{all_below};
 ghost use Rattle.rules.specs.Map.{by_dart, Limits, size};

@@ -1,5 +1,7 @@
 // A flood over lent work room: all that links of a set of ranks reach from a dart is marked. The first n entries hold
 // each dart's class, 0 or 1, or the mark; the next n the queue: the darts marked so far, in order.
+#![tactic(auto)]
+
 ghost use Rattle.std.specs.Prelude.{◌≡◌, ℕ, ◌+◌, ◌*◌, ◌-◌, ◌≤◌, ◌<◌, length, get_or};
 ghost use Rattle.rules.specs.Map.{by_dart, Limits, link};
 ghost use Rattle.flood.specs.Flood.{kept, runs, but_one, between, entered_room, entered_tail, Queue, LinksInside};
@@ -8,7 +10,7 @@ ghost use Rattle.flood.specs.Flood.{OrbitInside, SpreadFrom, Flooding, Flooded};
 use rules::Session;
 
 // A set of ranks as two runs: those below `low` and those from `high` on.
-#[derive(Drop)]
+#[derive(Clone, Copy)]
 pub struct Ranks {
     pub low: usize,
     pub high: usize,

@@ -1,5 +1,7 @@
 // The session's calls over a record that the caller lends: each takes the record out, makes the call by value and
 // writes the new record back.
+#![tactic(auto)]
+
 ghost use Rattle.std.specs.Prelude.{◌≡◌};
 ghost use Rattle.rules.specs.Map.{by_dart};
 ghost use Rattle.rules.specs.Session as calls;

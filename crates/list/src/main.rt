@@ -1,12 +1,14 @@
 // The listing program: reads one stream from standard input by pages through a session and prints the map, or the
 // refusal. Nothing is printed before the close answer is known.
+#![tactic(auto)]
+
 ghost use Rattle.std.specs.Prelude.{◌≡◌, length};
 
 use libc::{STDIN_FILENO, STDOUT_FILENO};
 use rules::{Form, ReadAnswer, Session};
 
 // A session after a page, and whether the input goes on.
-#[derive(Drop)]
+#[derive(Clone, Copy)]
 pub struct Fed {
     pub session: Session,
     pub more: bool,

@@ -1,5 +1,7 @@
 // Bits out: a pen gathers bits into bytes, most significant first, and stores only the bytes that fall into a page of
 // the stream.
+#![tactic(auto)]
+
 ghost use Rattle.std.specs.Prelude.{◌≡◌, Bool, List, ℕ, ◌≤◌, ◌<◌, ◌^◌};
 ghost use Rattle.rules.specs.Stream.{bits_of, code, filled};
 ghost use Rattle.rules.specs.Symbols.{told_symbol};
@@ -8,7 +10,7 @@ ghost use Rattle.pen.specs.Pens.{stored, penned, PenFits, Holds, Put, IndexFits}
 use rules::Symbol;
 
 // Where writing stands: the number of whole bytes so far, and the bits gathered for the next one.
-#[derive(Drop)]
+#[derive(Clone, Copy)]
 pub struct Pen {
     pub at: usize,
     pub bits: u16,

@@ -1,4 +1,6 @@
 // The session's calls, by value: the page, closing, and the whole read, with the refusals of a reading.
+#![tactic(auto)]
+
 ghost use Rattle.std.specs.Prelude.{◌≡◌, true, ◌⊎◌, ◌++◌, ◌-◌, ◌≤◌, ◌<◌, length, drop};
 ghost use Rattle.rules.specs.Bodies.{form_of};
 ghost use Rattle.rules.specs.Map.{by_dart, Limits};

@@ -1,5 +1,7 @@
 // The record and the answer that a reading leaves: refused, spoiled, held; the end of a walk, and where a run leaves
 // the session.
+#![tactic(auto)]
+
 ghost use Rattle.std.specs.Prelude.{◌≡◌, not, ℕ, ◌≤◌, ◌<◌, ◌%◌, ◌/◌, length, take, eqb};
 ghost use Rattle.rules.specs.Lists.{sum};
 ghost use Rattle.rules.specs.Map.{by_dart, Limits};
@@ -20,14 +22,14 @@ use runs::{Ran, Signal};
 use symbols::Cursor;
 
 // A session and the answer of a reading.
-#[derive(Drop)]
+#[derive(Clone, Copy)]
 pub struct Paged {
     pub session: Session,
     pub answer: ReadAnswer,
 }
 
 // A session and the answer of a page.
-#[derive(Drop)]
+#[derive(Clone, Copy)]
 pub struct Fetching {
     pub session: Session,
     pub answer: PageAnswer,

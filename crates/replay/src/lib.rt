@@ -1,4 +1,6 @@
 // The replay of a walk whose numbering is finished: what each step writes, by the numbers and the positions alone.
+#![tactic(auto)]
+
 ghost use Rattle.std.specs.Prelude.{◌≡◌, false, ◌+◌, ◌-◌, ◌≤◌, ◌<◌, length, get_or, ltb};
 ghost use Rattle.rules.specs.Map.{by_dart, Limits, Valid};
 ghost use Rattle.walk.specs.Numbers.{number_in, dart_in, positions_after};
@@ -7,14 +9,14 @@ ghost use Rattle.replay.specs.Replays.{known_in, deducing_rank, writes_in, count
 use rules::{Dart, Symbol, WalkNo};
 
 // What a step writes for aj(b): nothing where it is known or deduced, else its symbol.
-#[derive(Drop)]
+#[derive(Clone, Copy)]
 pub enum Yield {
     Nothing,
     One(Symbol),
 }
 
 // What a step comes to: what it writes, and how many darts are numbered after it.
-#[derive(Drop)]
+#[derive(Clone, Copy)]
 pub struct Replayed {
     pub written: Yield,
     pub count: u16,

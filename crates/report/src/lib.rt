@@ -1,4 +1,6 @@
 // The cell report: floods over lent work room serve refusals 9 and 30, the cells of each rank and the two classes.
+#![tactic(auto)]
+
 ghost use Rattle.std.specs.Prelude.{◌≡◌, ◌+◌, ◌*◌, ◌≤◌, ◌<◌, length, drop};
 ghost use Rattle.rules.specs.Lists.{first};
 ghost use Rattle.rules.specs.Map.{by_dart, Limits, Valid, size, blank};
@@ -13,7 +15,7 @@ use rules::{CheckAnswer, Form, ReportAnswer, Session};
 
 // Where the marking of bodies stands: the queue's length, how many N-cells are marked, and a dart below which every
 // dart has a mark.
-#[derive(Drop)]
+#[derive(Clone, Copy)]
 pub struct Spanning {
     pub tail: usize,
     pub cells: u32,
@@ -21,7 +23,7 @@ pub struct Spanning {
 }
 
 // How many links stay within a class, and how many of these stay in place: the free pairs.
-#[derive(Drop)]
+#[derive(Clone, Copy)]
 pub struct Tally {
     pub alike: u32,
     pub free: u32,

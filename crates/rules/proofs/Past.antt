@@ -235,6 +235,19 @@ module _ {Y Z : Layout} {N n : ℕ} {t u : List ℕ} (S : SameMap Y Z N n t u) w
           (rw (q, e), rw (q, e, names_links F root (length work) e))
       go (Verdict.refused nr p) e q = refused_check F Y Z N n root t u work nr p e (q ∙ ap (moved_verdict Y Z N n) e)
 
+  -- 10 and success have no position for their place
+  write_late : (b : Bool) (written l : ℕ)
+      → write_answer_of written l (refuse_if b 10 l Verdict.fine) ≡ moved_write Y Z N n (write_answer_of written l (refuse_if b 10 l Verdict.fine))
+  unfolding refuse_if write_answer_of moved_write refusal_place among
+  write_late true written l = refl
+  write_late false written l = refl
+
+  write_fine : (F : Form) (root start : ℕ) (work out : List ℕ) → verdict F Y N n root t (length work) ≡ Verdict.fine
+      → write_answer F Y N n root start t work out ≡ moved_write Y Z N n (write_answer F Y N n root start t work out)
+  unfolding write_answer write_verdict start_verdict
+  write_fine F root start work out e =
+      rw e (write_late (ltb (length (stream F Y N n t root)) start) (length (write_page F Y N n root start t work out)) (length (stream F Y N n t root)))
+
   -- the writer gives the same answer, but for the place of 6 and 7, and leaves the same work room and output
   pub write_links : (F : Form) (root start : ℕ) (work out : List ℕ)
       → (write_answer F Z N n root start u work out ≡ moved_write Y Z N n (write_answer F Y N n root start t work out))
@@ -245,17 +258,6 @@ module _ {Y Z : Layout} {N n : ℕ} {t u : List ℕ} (S : SameMap Y Z N n t u) w
       q : verdict F Z N n root u (length work) ≡ moved_verdict Y Z N n (verdict F Y N n root t (length work))
       q = verdict_links F root (length work)
 
-      -- 10 and success have no position for their place
-      late : (b : Bool) (written l : ℕ)
-          → write_answer_of written l (refuse_if b 10 l Verdict.fine) ≡ moved_write Y Z N n (write_answer_of written l (refuse_if b 10 l Verdict.fine))
-      late true written l = unfold refuse_if write_answer_of moved_write refusal_place among in refl
-      late false written l = unfold refuse_if write_answer_of moved_write refusal_place among in refl
-
-      fine : verdict F Y N n root t (length work) ≡ Verdict.fine
-          → write_answer F Y N n root start t work out ≡ moved_write Y Z N n (write_answer F Y N n root start t work out)
-      fine e = unfold write_answer write_verdict start_verdict in
-          rw e (late (ltb (length (stream F Y N n t root)) start) (length (write_page F Y N n root start t work out)) (length (stream F Y N n t root)))
-
       go : (v : Verdict) → verdict F Y N n root t (length work) ≡ v
           → (write_answer F Z N n root start u work out ≡ moved_write Y Z N n (write_answer F Y N n root start t work out))
           × (write_out F Z N n root start u work out ≡ write_out F Y N n root start t work out)
@@ -263,7 +265,7 @@ module _ {Y Z : Layout} {N n : ℕ} {t u : List ℕ} (S : SameMap Y Z N n t u) w
           let P = fine_passes F Y N n root t (length work) e in
           let s = stream_links F S.links P.limits.dims.1 P.limits.darts.1 (wanted_rooted F Y N n t root P.bodies) P.valid in
           let (a, o) = write_equal F Y Z N n t u root root start work out e (q ∙ (unfold moved_verdict in rw e)) s in
-          (a ∙ fine e, o)
+          (a ∙ write_fine F root start work out e, o)
       go (Verdict.refused nr p) e = refused_write F Y Z N n root t u work nr p e (q ∙ ap (moved_verdict Y Z N n) e) start out
 
   -- the report gives the same answer, but for the place of 6 and 7, and leaves the same work room

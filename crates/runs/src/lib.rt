@@ -1,5 +1,7 @@
 // The run of steps that a page's bits allow, over lent tables and positions: a turn takes a symbol where its step asks
 // for one, the next body begins where it is due, and the run ends, waits for bits, or is refused.
+#![tactic(auto)]
+
 ghost use Rattle.std.specs.Prelude.{◌≡◌, ◌≤◌};
 ghost use Rattle.rules.specs.Inner.{Lowest};
 ghost use Rattle.rules.specs.Walk.{Partner};
@@ -13,7 +15,7 @@ use symbols::{Cursor, Taken};
 
 // What a turn comes to: it goes on, with a rank below which all queues are empty, the count and the cursor, or it
 // waits for so many bits more at least, or it is refused by a number.
-#[derive(Drop)]
+#[derive(Clone, Copy)]
 pub enum Turned {
     On(usize, u16, Cursor),
     Waits(u32),
@@ -21,7 +23,7 @@ pub enum Turned {
 }
 
 // How a run ends: at the walk's end, waiting for so many bits more at least, or refused by a number.
-#[derive(Drop)]
+#[derive(Clone, Copy)]
 pub enum Signal {
     Ended,
     Waits(u32),
@@ -30,7 +32,7 @@ pub enum Signal {
 
 // Where the search for the lowest queue that isn't empty stands: at a rank below which all queues are empty, with the
 // count and the bodies begun.
-#[derive(Drop)]
+#[derive(Clone, Copy)]
 pub struct Search {
     pub rank: usize,
     pub count: u16,
@@ -38,7 +40,7 @@ pub struct Search {
 }
 
 // Where a run leaves the count, the bodies and the bits, beside the positions, which are lent.
-#[derive(Drop)]
+#[derive(Clone, Copy)]
 pub struct Halted {
     pub count: u16,
     pub bodies: u16,
@@ -47,7 +49,7 @@ pub struct Halted {
 }
 
 // Where a run leaves the walk and the bits.
-#[derive(Drop)]
+#[derive(Clone, Copy)]
 pub struct Ran {
     pub stand: Stand,
     pub cursor: Cursor,

@@ -1,4 +1,6 @@
 // 29: the first corner whose side is used a third time, by a local table of the sides of one block of corners.
+#![tactic(auto)]
+
 ghost use Rattle.std.specs.Prelude.{◌≡◌, ◌%◌, ◌≤◌, ◌<◌, length, replicate, get_or, set, eqb, not, cond};
 ghost use Rattle.rules.specs.Lists.{first};
 ghost use Rattle.text.specs.Leaves.{Fresh};
@@ -24,7 +26,7 @@ fn key(u: u32, v: u32) -> u64
 }
 
 // Where a search ends: at the corner that has this key, or at a free place of the tree.
-#[derive(Drop)]
+#[derive(Clone, Copy)]
 pub enum Spot {
     Found(usize),
     Free(usize),
@@ -91,7 +93,7 @@ fn enter(
 }
 
 // How many corners were loaded before a third use, or all; and the position after them.
-#[derive(Drop)]
+#[derive(Clone, Copy)]
 pub struct Loaded {
     pub count: usize,
     pub next: Position,

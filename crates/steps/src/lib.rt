@@ -1,5 +1,7 @@
 // One reading step over lent tables and positions: what is known of aj(b), and the step by a deduction or by a symbol.
 // Where a symbol comes from is no part of it.
+#![tactic(auto)]
+
 ghost use Rattle.std.specs.Prelude.{◌≡◌, ◌+◌, ◌≤◌, ◌<◌, length, set, ltb};
 ghost use Rattle.rules.specs.Map.{by_dart, Limits, link};
 ghost use Rattle.rules.specs.Walk as walk;
@@ -11,7 +13,7 @@ ghost use Rattle.steps.specs.Steps.{tables_joined, naming_for, deduced_step, sym
 use rules::{Naming, Session, Symbol, WalkNo};
 
 // The case of a step: what is to be done for aj(b).
-#[derive(Drop)]
+#[derive(Clone, Copy)]
 pub enum Case {
     Known,
     Deduced(WalkNo),
@@ -20,7 +22,7 @@ pub enum Case {
 
 // What a step comes to, beside the tables and positions, which are lent: it goes on, with a rank below which all
 // queues are empty and the count, or it is refused by a number.
-#[derive(Drop)]
+#[derive(Clone, Copy)]
 pub enum Stepped {
     On(usize, u16),
     Refused(u32),

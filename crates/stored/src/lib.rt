@@ -1,5 +1,7 @@
 // The stored record and the stored answers: a session as seventeen numbers in a caller's own room, and an answer as
 // its numbers in order. Which number of a session stands where is known here and nowhere else.
+#![tactic(auto)]
+
 ghost use Rattle.std.specs.Prelude.{◌≡◌, true, cond};
 ghost use Rattle.rules.specs.Reading.{plain_answer};
 ghost use Rattle.stored.specs.Answers.{read_numbers, page_numbers, report_numbers};

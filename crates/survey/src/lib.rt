@@ -1,4 +1,6 @@
 // The pass over a whole text: 26, or where the faces stand and the first of them that 27 or 28 refuses.
+#![tactic(auto)]
+
 ghost use Rattle.std.specs.Prelude.{◌≡◌, cond, ◌+◌, ◌<◌, ltb};
 ghost use Rattle.shapes.specs.Text.{number, several, face};
 ghost use Rattle.text.specs.Leaves.{Fresh};
@@ -23,7 +25,7 @@ fn worse(number: u32, vertices: u32, own: u32, far: u32) -> u32
 }
 
 // 26 at a place; or 27, 28 or 0, and the position after the corners.
-#[derive(Drop)]
+#[derive(Clone, Copy)]
 pub enum Look {
     Bad(usize),
     Good(u32, usize),
@@ -55,7 +57,7 @@ fn others(text: &[u8], at: usize, count: u32, vertices: u32, first: u32, flaw: u
 }
 
 // 26 at a place; or 27, 28 or 0, the count of corners and the position after the line.
-#[derive(Drop)]
+#[derive(Clone, Copy)]
 pub enum Sight {
     Bad(usize),
     Good(u32, u32, usize),
@@ -101,7 +103,7 @@ fn seen(text: &[u8], at: usize, vertices: u32) -> Sight
 }
 
 // The first face that 27 or 28 refuses and by which (0: none yet), and how many corners are before it.
-#[derive(Drop)]
+#[derive(Clone, Copy)]
 pub struct Flaw {
     pub number: u32,
     pub face: u32,
@@ -131,7 +133,7 @@ fn judged(s: Flaw, face: u32, number: u32, corners: u32) -> Flaw
 }
 
 // 26 at a place, or what 27 and 28 say.
-#[derive(Drop)]
+#[derive(Clone, Copy)]
 pub enum Survey {
     Bad(usize),
     Good(Flaw),
@@ -165,7 +167,7 @@ fn faces(text: &[u8], at: usize, count: u32, vertices: u32) -> Survey
 }
 
 // Where the first face stands, and what 27 and 28 say of the faces.
-#[derive(Drop)]
+#[derive(Clone, Copy)]
 pub struct Plan {
     pub start: usize,
     pub number: u32,
@@ -174,7 +176,7 @@ pub struct Plan {
 }
 
 // 26 at a place, or the plan.
-#[derive(Drop)]
+#[derive(Clone, Copy)]
 pub enum Outline {
     Bad(usize),
     Good(Plan),

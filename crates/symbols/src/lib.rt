@@ -1,6 +1,8 @@
 // Bits and symbols: a cursor over the bits that wait and a page's bits, and taking one symbol. A look at the page may
 // be slow, so a symbol loads each byte of the page that it lies in once, and no other byte: `Hand::loaded` alone looks
 // at the page, at one byte, and is called only where the symbol has more bits than are at hand.
+#![tactic(auto)]
+
 ghost use Rattle.std.specs.Prelude.{◌≡◌, List, ℕ, ◌+◌, ◌≤◌, ◌<◌, ◌^◌, length};
 ghost use Rattle.rules.specs.Stream.{bits_of, value};
 ghost use Rattle.symbols.specs.Cursors.{at_hand, CursorFits, Past, SymbolTaken};
@@ -10,7 +12,7 @@ ghost use Rattle.symbols.specs.Hands.{Needed, Reads, Starts};
 use rules::{Symbol, WalkNo};
 
 // Where taking bits stands: bits that wait from before the page, then the page from a byte and a bit of it on.
-#[derive(Drop)]
+#[derive(Clone, Copy)]
 pub struct Cursor {
     pub waiting: u16,
     pub value: u16,
@@ -20,7 +22,7 @@ pub struct Cursor {
 
 // The first bits at hand: how many, and the number of 24 bits that they and zeros after them write. Those after them
 // are the page's from a byte on.
-#[derive(Drop)]
+#[derive(Clone, Copy)]
 pub struct Hand {
     pub bits: u32,
     pub head: u32,
@@ -29,7 +31,7 @@ pub struct Hand {
 
 // How a symbol begins: bits ran out, with how many more could at least finish it; or those that wait hold it whole,
 // with the cursor past it; or they and those of the cursor's byte are in a hand.
-#[derive(Drop)]
+#[derive(Clone, Copy)]
 pub enum First {
     Out(u8),
     New(Cursor),
@@ -39,14 +41,14 @@ pub enum First {
 
 // The next symbol, with the cursor past it, or bits ran out, with how many more could at least finish it. A byte holds
 // that, and in memory it lies beside what a symbol has, not across it: so a symbol that is there costs nothing for it.
-#[derive(Drop)]
+#[derive(Clone, Copy)]
 pub enum Taken {
     Short(u8),
     Symbol(Symbol, Cursor),
 }
 
 // Bits that wait: how many, and the number they write.
-#[derive(Drop)]
+#[derive(Clone, Copy)]
 pub struct Waiting {
     pub bits: u16,
     pub value: u16,

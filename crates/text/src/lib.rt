@@ -1,17 +1,19 @@
 // Leaves over the text of a face file: lines, words and numbers from a position on.
+#![tactic(auto)]
+
 ghost use Rattle.std.specs.Prelude.{◌≡◌};
 ghost use Rattle.shapes.specs.Text.{is_blank, line_end, word_from, word_end, word, several};
 ghost use Rattle.text.specs.Leaves.{stop, Fresh, Inside, reading_of, place_of, known_of, header_of};
 
 // What is read from a position on: 26 at a place, or a number and the position after it.
-#[derive(Drop)]
+#[derive(Clone, Copy)]
 pub enum Reading {
     Bad(usize),
     Good(u32, usize),
 }
 
 // The same where no number is wanted.
-#[derive(Drop)]
+#[derive(Clone, Copy)]
 pub enum Place {
     Bad(usize),
     Good(usize),
@@ -139,7 +141,7 @@ pub fn number(text: &[u8], at: usize) -> Reading
 }
 
 // A number that is known to stand there, and the position after it.
-#[derive(Drop)]
+#[derive(Clone, Copy)]
 pub struct Known {
     pub value: u32,
     pub after: usize,
@@ -198,14 +200,14 @@ pub fn passed(text: &[u8], at: usize, count: u64) -> Place
 }
 
 // What the header says, and the position after it.
-#[derive(Drop)]
+#[derive(Clone, Copy)]
 pub struct Sizes {
     pub vertices: u32,
     pub faces: u32,
     pub after: usize,
 }
 
-#[derive(Drop)]
+#[derive(Clone, Copy)]
 pub enum Header {
     Bad(usize),
     Good(Sizes),

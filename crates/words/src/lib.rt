@@ -1,4 +1,6 @@
 // Words and numbers, put into a lent room.
+#![tactic(auto)]
+
 ghost use Rattle.std.specs.Prelude.{◌++◌, ◌+◌, ◌≤◌, length};
 ghost use Rattle.words.specs.Room.{TextPut};
 ghost use Rattle.words.specs.Words.{numeral, spaced, line_end};

@@ -1,5 +1,7 @@
 // The writer: the check, which numbers the darts, then a replay of the walk that puts the symbols' bits and so comes
 // to the stream's length.
+#![tactic(auto)]
+
 ghost use Rattle.std.specs.Prelude.{◌≡◌, length, get_or, Bool, List};
 ghost use Prim.Native.Nat.{ℕ, ◌+◌, ◌*◌, ◌≤◌};
 ghost use Rattle.rules.specs.Bodies.{first_bits};
