@@ -1,0 +1,11 @@
+-- `tables::commutes` meets its contract: every rank before i goes with rank j. Assumes nothing.
+use Prim.Native.Nat.{◌-◌}
+use Rattle.rules.proofs.Lists.{PassedSoFar}
+use Rattle.tables.specs.Sound.{commutes_at}
+use Rattle.tables.proofs.commutes.Given as goal
+
+abbrev pub invariant-loop-i : goal.invariant-loop-i
+invariant-loop-i l = PassedSoFar (commutes_at l.dim l.darts l.tables l.j l.dart) (l.j - 1) l.i
+
+abbrev pub decreases-loop-i : goal.decreases-loop-i
+decreases-loop-i l = l.j - l.i
