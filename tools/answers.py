@@ -32,6 +32,7 @@ class Names:
         self.loops = j["loops"]
         self.changed = j["changed"]
         self.settled = j["settled"]
+        self.params = j["params"]
 
     def place(self, old):
         return self.old.get(norm(old))
@@ -51,100 +52,132 @@ def blocks(text):
     return out
 
 
+def atoms(text, at, count):
+    """count arguments of text from `at` on: names with their fields, or groups. None where there are fewer."""
+    out = []
+    for _ in range(count):
+        m = re.compile(r"\s*").match(text, at)
+        at = m.end()
+        if at < len(text) and text[at] == "(":
+            depth, k = 0, at
+            while k < len(text):
+                depth += text[k] == "("
+                depth -= text[k] == ")"
+                k += 1
+                if depth == 0:
+                    break
+            m = re.compile(r"(?:\.[\w'₀-₉-]+)*").match(text, k)
+            out.append(text[at:m.end()])
+            at = m.end()
+        else:
+            m = re.compile(r"[^\s(){};,]+").match(text, at)
+            if not m:
+                return None, at
+            out.append(m[0])
+            at = m.end()
+    return out, at
+
+
+WORDEDGE = r"(?<![\w.'₀-₉-])"
+
+
 class Turner:
     def __init__(self, n, goal="goal"):
         self.n = n
         self.nav = {}
+        self.helpers = {}
         self.left = []
+        self.count = 0
 
-    def resolve(self, place, comps, root):
-        """root + comps at place: new text."""
+    def step(self, comps, root):
+        """root.comps: new text. A step is known by its older name, which no other has."""
         n = self.n
-        hops = 0
-        while comps and comps[0] == "before" and place:
-            place = n.place(place["parent"]) if place["parent"] else None
-            comps = comps[1:]
-            hops += 1
-        if not comps:
-            return root + ".before" * hops, place, hops
-        if place is None:
-            self.left.append(f"{root}: went past the start")
-            return root + ".before" * hops + "".join("." + c for c in comps), None, hops
         head = comps[0]
-        if head in ("args", "requires", "ranges", "well_formed", "type_inv", "lifetimes"):
-            return root + "".join("." + c for c in comps), None, 0
+        if norm(head) in ("args", "requires", "ranges", "well_formed", "type_inv", "lifetimes", "utf8"):
+            return root + "".join("." + c for c in [head.replace("-", "_")] + comps[1:])
         if head == "pre":
-            return root + ".requires" + "".join("." + c for c in comps[1:]), None, 0
+            return root + ".requires" + "".join("." + c for c in comps[1:])
         for q in n.places:
             for var, step in q["typed"]:
                 if step and norm(step) == norm(head) and comps[1:2] == ["given"]:
-                    return root + ".type_inv." + var + "".join("." + c for c in comps[2:]), None, 0
-        old, new = place["step"]
-        if place["arm"]:
-            name, _, fields = place["arm"]
-            for f, step, path in fields:
-                if norm(step) == norm(head) and comps[1:1 + len(path)] == path:
-                    if path:
-                        return root + "." + name + "." + f + "".join("." + c for c in comps[1 + len(path):]), None, 0
-        if norm(head) == norm(old):
-            rest = comps[1:]
-            if rest and rest[0] in ("taken", "left"):
-                rest[0] = {"taken": "true", "left": "false"}[rest[0]]
-            if rest and rest[0] == "inv":
-                rest[0] = "invariant"
-            return root + "." + new + "".join("." + c for c in rest), None, 0
-        self.left.append(f"at {place['old']} no step {head}, but {old}")
-        return root + ".before" * hops + "".join("." + c for c in comps), None, hops
+                    return root + ".type_inv." + var + "".join("." + c for c in comps[2:])
+        for q in n.places:
+            if q["arm"]:
+                name, _, fields = q["arm"]
+                for f, step, path in fields:
+                    if path and norm(step) == norm(head) and comps[1:1 + len(path)] == path:
+                        return root + "." + name + "." + f + "".join("." + c for c in comps[1 + len(path):])
+        for q in n.places:
+            old, new = q["step"]
+            if norm(head) == norm(old):
+                rest = comps[1:]
+                if rest:
+                    rest[0] = {"taken": "true", "left": "false", "inv": "invariant", "kept": "auto"}.get(rest[0], rest[0])
+                if rest and rest[0] == "auto" and len(rest) > 1 and q["callee"] in n.params:
+                    ps = n.params[q["callee"]]
+                    if rest[1].isdigit() and int(rest[1]) < len(ps):
+                        rest[1] = ps[int(rest[1])]
+                        if rest[2:3] == ["0"]:
+                            del rest[2]
+                return root + "." + new + "".join("." + c for c in rest)
+        self.left.append(f"no step {head}")
+        return root + "".join("." + c for c in comps)
 
-    def body(self, text, roots):
-        """roots: variable -> place"""
-        n = self.n
-        alias = {}
-        # navigation by the helpers
-        changed = True
-        path = r"([A-Za-z][\w'₀-₉-]*)((?:\.before)*)"
-        for _ in range(30):
+    def flat(self, text, roots):
+        """Each place is the root itself."""
+        names = "|".join(re.escape(r) for r in roots)
+        navs = "|".join(re.escape(x) for x in self.nav) or "$^"
+        for _ in range(40):
             before = text
-            for name, (hops, to) in self.nav.items():
-                def go(m):
-                    return m[1] + m[2] + ".before" * hops
-                text = re.sub(rf"\({re.escape(name)} {path}\)", go, text)
-                text = re.sub(rf"(?<![^\s(]){re.escape(name)} {path}(?![\w.'-])", go, text)
-                text = re.sub(rf"\({re.escape(name)} {path}\)", go, text)
-            # aliases of places
-            m = re.search(rf"let ([\w']+) = {path} in\s*", text)
-            while m:
-                if m[2] in roots or m[2] in alias:
-                    break
-                m2 = re.search(rf"let ([\w']+) = {path} in\s*", text[m.end():])
-                if not m2:
-                    m = None
-                    break
-                # shift
-                off = m.end()
-                class M:
-                    pass
-                mm = M()
-                mm.s, mm.e, mm.g = off + m2.start(), off + m2.end(), m2.groups()
-                m = re.compile(rf"let ([\w']+) = {path} in\s*").search(text, off)
-            if m and m[2] in roots:
-                name, value = m[1], m[2] + (m[3] or "")
-                rest = text[m.end():]
-                rest = re.sub(rf"(?<![\w.'-]){re.escape(name)}(?![\w'-])", lambda _: value, rest)
+            text = re.sub(rf"{WORDEDGE}({names})(?:\.before)+", r"\1", text)
+            text = re.sub(rf"{WORDEDGE}(?:{navs}) ({names})(?![\w.'₀-₉-])", r"\1", text)
+            text = re.sub(rf"(?<=[\s(])\(({names})\)", r"\1", text)
+            text = re.sub(rf"^\(({names})\)", r"\1", text)
+            m = re.search(rf"let ([\w'₀-₉-]+) = ({names}) in\s*", text)
+            if m:
+                name, value = m[1], m[2]
+                rest = re.sub(rf"{WORDEDGE}{re.escape(name)}(?![\w'₀-₉-])", lambda _: value, text[m.end():])
                 text = text[:m.start()] + rest
+            text = self.inline(text, roots)
             if text == before:
                 break
+        return text
+
+    def inline(self, text, roots):
+        for name, (params, sig, body) in self.helpers.items():
+            m = re.search(rf"{WORDEDGE}{re.escape(name)}(?![\w.'₀-₉-])", text)
+            while m:
+                got, end = atoms(text, m.end(), len(params))
+                if got is None:
+                    self.left.append(f"{name} without its arguments")
+                    break
+                s, b = sig, body
+                for p, a in zip(params, got):
+                    f = lambda _, a=a: a
+                    s = re.sub(rf"{WORDEDGE}{re.escape(p)}(?![\w'₀-₉-])", f, s)
+                    b = re.sub(rf"{WORDEDGE}{re.escape(p)}(?![\w'₀-₉-])", f, b)
+                self.count += 1
+                v = "h" + str(self.count)
+                new = f"(let {v} : {s} = {b} in {v})"
+                at = m.start()
+                if text[at - 1:at] == "(" and text[end:end + 1] == ")":
+                    at, end = at - 1, end + 1
+                text = text[:at] + new + text[end:]
+                m = re.compile(rf"{WORDEDGE}{re.escape(name)}(?![\w.'₀-₉-])").search(text, at + len(new))
+        return text
+
+    def body(self, text, roots):
+        names = "|".join(re.escape(r) for r in roots)
+        if not names:
+            return text
+        text = self.flat(text, roots)
 
         def one(m):
-            root, comps = m[1], [c for c in m[2].split(".") if c]
-            if root not in roots:
-                return m[0]
-            new, _, _ = self.resolve(roots[root], comps, root)
-            return new
-        names = "|".join(re.escape(r) for r in roots)
-        if names:
-            text = re.sub(rf"(?<![\w.'-])({names})((?:\.[\w'₀-₉-]+)+)", one, text)
-        return text
+            return self.step([c for c in m[2].split(".") if c], m[1])
+        text = re.sub(rf"{WORDEDGE}({names})((?:\.[\w'₀-₉-]+)+)", one, text)
+        text = re.sub(r"\.inv(?![\w'-])", ".invariant", text)
+        text = re.sub(r"\.pre(?![\w'-])", ".requires", text)
+        return re.sub(r"\.kept(?![\w'-])", ".auto", text)
 
 
 def types(text, n, left):
@@ -235,6 +268,8 @@ def turn(path, crate, name, j, keep=False):
                 ans.append("\n".join(comments + [f"-- left: no goal {need}"] + ["-- " + x for x in b]))
                 continue
             new, (oldp, newp) = hit
+            if new.startswith("shape_of-"):
+                continue
             if not clause:
                 ans.append("\n".join(comments + [f"-- left: clauses of {need} as {new}"] + ["-- " + x for x in b]))
                 continue
@@ -244,51 +279,67 @@ def turn(path, crate, name, j, keep=False):
             root = args[0] if args else None
             place = n.place(oldp)
             roots = {root: place} if root else {}
+            for h, u in getattr(t, "unfold", {}).items():
+                if re.search(rf"{WORDEDGE}{re.escape(h)}(?![\w.'₀-₉-])", eq):
+                    t.left.append(f"{h} has its own {u.strip()}")
             extra = [a for a in args[1:] if a != "κs"]
             before = len(t.left)
             eq2 = t.body(eq, roots)
             # a test of `!x` tells what x is
-            eq2 = re.sub(r"\(not-(?:true|false) _ (c\.if-not[\w-]*\.(?:true|false))\)", r"\1", eq2)
-            eq2 = re.sub(r"not-(?:true|false) _ (c\.if-not[\w-]*\.(?:true|false))", r"\1", eq2)
+            eq2 = re.sub(r"\(not-(?:true|false) \S+ (c\.if-not[\w-]*\.(?:true|false))\)", r"\1", eq2)
+            eq2 = re.sub(r"not-(?:true|false) \S+ (c\.if-not[\w-]*\.(?:true|false))", r"\1", eq2)
             notes = [f"-- left: {x}" for x in t.left[before:]]
             one = "\n" not in eq2.strip() and len(new) + len(eq2) < 140
             ans.append("\n".join(comments + notes + [f"pub {new} : goal.{new}"]) + "\n" + unf +
                        f"{new} {' '.join(([root] if root else []) + extra)} =" + (" " + eq2.strip() if one else "\n    " + eq2.strip()))
             continue
-        m = re.match(r"abbrev (\S+) : tie\.(\S+)(?: (?:invariant|decreases)-loop\d*)* → tie\.(\S+)", sig)
-        clause = re.match(r"\S+ (\w+) = (.*)$", rest, re.S)
-        if m and clause:
+        # a helper over a place: one that only goes back is the place itself, another goes into what uses it
+        m = re.match(r"(?:abbrev )?(?:pub )?(\S+) : (.*)$", sig, re.S)
+        clause = re.match(r"\S+((?: [\w'₀-₉]+)+) =\s*(.*)$", rest, re.S)
+        if m and "tie." in sig and clause and rest.count("\n" + m[1] + " ") == 0:
+            name2, ty = m[1], m[2]
+            params = clause[1].split()
             eq = clause[2].strip()
-            root = clause[1]
-            # expand earlier helpers
-            path = rf"{root}((?:\.before)*)"
-            for nm, (h, to) in t.nav.items():
-                eq = re.sub(rf"\({re.escape(nm)} ({path})\)", lambda q: q[1] + ".before" * h, eq)
-                eq = re.sub(rf"^{re.escape(nm)} ({path})$", lambda q: q[1] + ".before" * h, eq)
-            q = re.fullmatch(path, eq)
-            if q:
-                t.nav[m[1]] = (q[1].count(".before"), m[3])
+            ty = re.sub(r"(?:invariant|decreases)-loop\d*", "", ty)
+            # take the arguments off the type
+            left = ty.strip()
+            good = True
+            for prm in params:
+                g = re.match(r"\(([\w'₀-₉ ]+) : ", left)
+                if g:
+                    got, end = atoms(left, 0, 1)
+                    vs = g[1].split()
+                    if vs[0] != prm:
+                        good = False
+                        break
+                    if len(vs) > 1:
+                        left = "(" + " ".join(vs[1:]) + left[g.end() - 3:]
+                    else:
+                        left = re.sub(r"^\s*→?\s*", "", left[end:])
+                else:
+                    depth = 0
+                    for k, ch in enumerate(left):
+                        depth += ch in "(["
+                        depth -= ch in ")]"
+                        if depth == 0 and ch == "→":
+                            break
+                    else:
+                        good = False
+                        break
+                    left = left[k + 1:].strip()
+            if good:
+                if re.match(r"tie\.[\w'-]+\s*$", left):
+                    t.nav[name2] = True
+                else:
+                    t.helpers[name2] = (params, left, eq)
+                    if unf:
+                        t.unfold = getattr(t, "unfold", {})
+                        t.unfold[name2] = unf
                 continue
-        # another helper
-        before = len(t.left)
-        roots = {}
-        psig = re.findall(r"\((\w+) : tie\.(\S+?)(?: (?:invariant|decreases)-loop\d*)*\)", sig)
-        for v, p in psig:
-            roots[v] = n.place(p)
-        sig2 = t.body(sig, roots) if roots else sig
-        names = []
-        sig2 = types(sig2, n, names)
-        roots2 = {}
-        first = re.match(r"\S+((?: [\w'₀-₉]+)*) =", rest)
-        lead = re.findall(r"tie\.([\w'-]+)", sig)
-        if first:
-            vs = first[1].split()
-            for v, p in zip(vs, lead):
-                if n.place(p):
-                    roots2[v] = n.place(p)
-        rest2 = t.body(rest, roots2) if roots2 else rest
-        notes = [f"-- left: {x}" for x in t.left[before:] + names]
-        ans.append("\n".join(comments + notes) + ("\n" if comments or notes else "") + sig2 + "\n" + unf + rest2)
+        if "tie." not in sig:
+            ans.append("\n".join(comments + [sig]) + "\n" + unf + rest)
+            continue
+        ans.append("\n".join(comments + ["-- left: a helper"]) + "\n" + sig + "\n" + unf + rest)
     folder = os.path.dirname(path)
     keepuse = [u for u in uses if ".Statement." not in u and not u.endswith(".Tie as tie")]
     body = "\n\n".join(ans)

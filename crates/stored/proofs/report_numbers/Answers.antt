@@ -1,0 +1,10 @@
+-- `stored::report_numbers` meets its contract: the numbers of the answer in their order. Assumes nothing.
+use mathlib.Core.Path.{◌≡◌, sym, ◌∙◌}
+use lib.ListN.{length, length-map}
+use Rattle.stored.proofs.Laws.{reported_by}
+use Rattle.stored.proofs.report_numbers.Goals as goal
+
+pub returns : goal.returns
+returns c =
+    let e : length c.args.a.cells ≡ 7 = sym (length-map c.args.a.cells (λ v. v)) ∙ c.well_formed.0.1.1.1.1.0.1.0.1 in
+    reported_by c.args.a e _ c.flag.ensures

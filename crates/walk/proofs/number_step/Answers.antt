@@ -1,0 +1,39 @@
+-- `walk::number_step` meets its contract: the head leaves Lj, and a partner without number gets the next one. Assumes nothing.
+use Prim.Native.Nat.{◌<◌}
+use mathlib.Core.Path.{refl}
+use native.Mathlib.Omega.{arith}
+use lib.ListN.{get_or}
+use Rattle.walk.proofs.Laws.{Looked, partner_low, numbered_no, stepped_old, stepped_new}
+use Rattle.walk.proofs.number_step.Goals as goal
+
+pub number_of-requires : goal.number_of-requires
+number_of-requires c =
+    let p = c.requires in
+    (omega (arith, p.4.room), rw (c.partner_of-x.ensures, c.dart_of.ensures) (p.1.inside _ _ p.2 p.4.dart))
+
+pub returns-then-number_of : goal.returns-then-number_of
+returns-then-number_of c =
+    let (p, q) = stepped_old (let h1 : let a = c.args in
+    Looked a.dim a.darts a.tables.now a.work.now a.j (get_or a.positions.now a.j 0)
+    c.dart_of.result c.partner_of-x.result c.number_of.result = record { dart = c.dart_of.ensures; partner = c.partner_of-x.ensures; number = c.number_of.ensures } in h1) _ c.if-number_of.true in (refl, p, q)
+
+pub give_number-requires : goal.give_number-requires
+give_number-requires c =
+    ((let h2 : c.partner_of-x.result.0 < c.args.darts = let p = c.requires in partner_low (let h4 : let a = c.args in
+    Looked a.dim a.darts a.tables.now a.work.now a.j (get_or a.positions.now a.j 0)
+    c.dart_of.result c.partner_of-x.result c.number_of.result = record { dart = c.dart_of.ensures; partner = c.partner_of-x.ensures; number = c.number_of.ensures } in h4) p.1 p.2 p.4.dart in h2), omega (arith, (let h3 : c.args.count < c.args.darts = c.requires.4.next (numbered_no (let h5 : let a = c.args in
+    Looked a.dim a.darts a.tables.now a.work.now a.j (get_or a.positions.now a.j 0)
+    c.dart_of.result c.partner_of-x.result c.number_of.result = record { dart = c.dart_of.ensures; partner = c.partner_of-x.ensures; number = c.number_of.ensures } in h5) c.if-number_of.false) in h3), c.requires.4.room))
+
+pub overflow_add-result : goal.overflow_add-result
+overflow_add-result c =
+    omega (arith, (let h6 : c.args.count < c.args.darts = c.requires.4.next (numbered_no (let h7 : let a = c.args in
+    Looked a.dim a.darts a.tables.now a.work.now a.j (get_or a.positions.now a.j 0)
+    c.dart_of.result c.partner_of-x.result c.number_of.result = record { dart = c.dart_of.ensures; partner = c.partner_of-x.ensures; number = c.number_of.ensures } in h7) c.if-number_of.false) in h6))
+
+pub returns : goal.returns
+returns c =
+    let (p, q) = stepped_new (let h8 : let a = c.args in
+    Looked a.dim a.darts a.tables.now a.work.now a.j (get_or a.positions.now a.j 0)
+    c.dart_of.result c.partner_of-x.result c.number_of.result = record { dart = c.dart_of.ensures; partner = c.partner_of-x.ensures; number = c.number_of.ensures } in h8) _ _ c.if-number_of.false c.give_number.ensures in
+    (refl, p, q)
