@@ -18,6 +18,33 @@ def norm(s):
     return s.replace("-", "_").lower()
 
 
+def references():
+    """crate::path::function -> its parameters that are references"""
+    out = {}
+    for folder, dirs, files in os.walk("crates"):
+        for f in files:
+            if f.endswith(".rt") and "/src" in folder:
+                crate = folder.split("/")[1]
+                text = open(os.path.join(folder, f)).read()
+                for m in re.finditer(r"\bfn (\w+)\s*\(([^)]*)\)", text):
+                    head = text[:m.start()]
+                    ty = re.findall(r"^impl (\w+)|^(\})", head, re.M)
+                    owner = ty[-1][0] if ty and ty[-1][0] else ""
+                    ps = []
+                    for prm in m[2].split(","):
+                        prm = prm.strip()
+                        if not prm:
+                            continue
+                        nm, _, tp = prm.partition(":")
+                        if tp.strip().startswith("&") or nm.startswith("&"):
+                            ps.append(nm.strip().lstrip("&").replace("mut ", "").strip())
+                    out["::".join(x for x in (crate, owner, m[1]) if x)] = ps
+    return out
+
+
+REFS = references() if os.path.isdir("crates") else {}
+
+
 class Names:
     def __init__(self, j):
         self.old = {}
@@ -33,6 +60,7 @@ class Names:
         self.changed = j["changed"]
         self.settled = j["settled"]
         self.params = j["params"]
+        self.args = j["args"]
 
     def place(self, old):
         return self.old.get(norm(old))
@@ -88,10 +116,15 @@ class Turner:
         self.helpers = {}
         self.left = []
         self.count = 0
+        self.tags = set()
 
     def step(self, comps, root):
         """root.comps: new text. A step is known by its older name, which no other has."""
         n = self.n
+        for a, b in n.args:
+            a, b = [x.strip(" .") for x in a.split(" ")], [x.strip(" .") for x in b.split(" ")]
+            if len(a) == 2 and comps[:2] == a:
+                comps = b + comps[2:]
         head = comps[0]
         if norm(head) in ("args", "requires", "ranges", "well_formed", "type_inv", "lifetimes", "utf8"):
             return root + "".join("." + c for c in [head.replace("-", "_")] + comps[1:])
@@ -113,15 +146,42 @@ class Turner:
                 rest = comps[1:]
                 if rest:
                     rest[0] = {"taken": "true", "left": "false", "inv": "invariant", "kept": "auto"}.get(rest[0], rest[0])
-                if rest and rest[0] == "auto" and len(rest) > 1 and q["callee"] in n.params:
-                    ps = n.params[q["callee"]]
-                    if rest[1].isdigit() and int(rest[1]) < len(ps):
-                        rest[1] = ps[int(rest[1])]
-                        if rest[2:3] == ["0"]:
-                            del rest[2]
+                if rest and rest[0] in ("auto", "new") and len(rest) > 1 and q["callee"]:
+                    ps = REFS.get(q["callee"])
+                    ones = 0
+                    while rest[1 + ones:2 + ones] == ["1"]:
+                        ones += 1
+                    if ps and ones < len(ps) and rest[1 + ones:2 + ones] == ["0"]:
+                        rest[1:2 + ones] = [ps[ones]]
                 return root + "." + new + "".join("." + c for c in rest)
         self.left.append(f"no step {head}")
         return root + "".join("." + c for c in comps)
+
+    def put(self, name, value, text):
+        """value for name, up to where the name is bound anew"""
+        sub = lambda s: re.sub(rf"{WORDEDGE}{re.escape(name)}(?![\w'₀-₉-])", lambda _: value, s)
+        m = re.search(rf"(?:let |λ ){re.escape(name)}(?= [=:]|\.)", text)
+        if not m:
+            return sub(text)
+        k = text.find(" in", m.end())
+        k = len(text) if k < 0 else k
+        head, mid, tail = text[:m.start()], text[m.start():m.end()], text[m.end():k]
+        return sub(head) + mid + (sub(tail) if mid.startswith("let") else tail) + text[k:]
+
+    def fresh(self, texts):
+        """The names that a helper binds, each with a number of its own."""
+        bound = set()
+        for s in texts:
+            bound |= set(re.findall(r"(?:let|λ) ([\w'₀-₉-]+)(?= [=:]|\.)", s))
+            for g in re.findall(r"let \(([\w'₀-₉, -]+)\) =", s):
+                bound |= set(x.strip() for x in g.split(","))
+            for g in re.findall(r"λ ([\w'₀-₉ ]+)\.", s):
+                bound |= set(g.split())
+        bound -= {"_"}
+        if not bound:
+            return texts
+        names = "|".join(sorted((re.escape(b) for b in bound), key=len, reverse=True))
+        return [re.sub(rf"(?<![\w.'₀-₉-])({names})(?![\w'₀-₉-])", lambda m: f"{m[1]}_{self.count}", s) for s in texts]
 
     def flat(self, text, roots):
         """Each place is the root itself."""
@@ -135,11 +195,73 @@ class Turner:
             text = re.sub(rf"^\(({names})\)", r"\1", text)
             m = re.search(rf"let ([\w'₀-₉-]+) = ({names}) in\s*", text)
             if m:
-                name, value = m[1], m[2]
-                rest = re.sub(rf"{WORDEDGE}{re.escape(name)}(?![\w'₀-₉-])", lambda _: value, text[m.end():])
-                text = text[:m.start()] + rest
+                text = text[:m.start()] + self.put(m[1], m[2], text[m.end():])
+            for m in re.finditer(rf"let ([\w'₀-₉-]+) = (({names})\.([\w'₀-₉-]+)) in\s*", text):
+                if norm(m[4]) in ("args", "requires", "pre", "ranges"):
+                    continue
+                text = text[:m.start()] + self.put(m[1], m[2], text[m.end():])
+                break
             text = self.inline(text, roots)
             if text == before:
+                break
+        return text
+
+    def chain(self, first):
+        """The places of a branch, from its test on to where it joins."""
+        n = self.n
+        k = next(i for i, q in enumerate(n.places) if q is first)
+        out = [first]
+        for q in n.places[k + 1:]:
+            if q["parent"] == out[-1]["old"] or q["parent"] in [x["old"] for x in out]:
+                if q["old"].startswith("Joined"):
+                    pass
+                if q["parent"] != out[-1]["old"]:
+                    at = [x["old"] for x in out].index(q["parent"])
+                    out = out[:at + 1]
+                out.append(q)
+        return out
+
+    def branches(self, text, roots):
+        names = "|".join(re.escape(r) for r in roots)
+        for _ in range(50):
+            m = re.search(r"⊎_elim\s*(?=\()", text)
+            done = False
+            while m:
+                got, end = atoms(text, m.end(), 3)
+                g = re.fullmatch(rf"({names})\.([\w-]+)\.branch", got[2]) if got else None
+                if g:
+                    tests = [q for q in self.n.places if norm(q["step"][0]) == norm(g[2])]
+                    then = next((q for q in tests if q["old"].startswith("Then")), None)
+                    els = next((q for q in tests if q["old"].startswith("Else")), None)
+                    if then and els:
+                        arms = []
+                        for first, word, side in ((then, "then", got[0]), (els, "else", got[1])):
+                            ways = self.chain(first)
+                            h = re.fullmatch(r"\(λ (\w+)\.\s*(.*)\)", side, re.S)
+                            w, body = h[1], h[2]
+
+                            def field(mm, ways=ways, w=w):
+                                k = int(mm[1])
+                                if k < len(ways):
+                                    rest = mm[2].replace(".taken", ".true").replace(".left", ".false").replace(".kept", ".auto")
+                                    cal = ways[k]["callee"]
+                                    z = re.match(r"\.(auto|new)((?:\.1)*)\.0(.*)$", rest)
+                                    ps = REFS.get(cal or "")
+                                    if z and ps and z[2].count("1") < len(ps):
+                                        rest = "." + z[1] + "." + ps[z[2].count("1")] + z[3]
+                                    return f"{w}.{ways[k]['step'][1]}{rest}"
+                                return f"{w}.EQUATION{k - len(ways)}-is{mm[2]}"
+                            body = re.sub(rf"{WORDEDGE}{w}\.(\d+)((?:\.[\w'-]+)*)", field, body)
+                            tag = "+".join(("then" if q["old"].startswith("Then") else "else") + q["step"][1].removeprefix("if")
+                                           for q in ways if q["old"].startswith(("Then", "Else")))
+                            self.tags.add(tag)
+                            arms.append(f"{tag} {w} ↦ {body}")
+                        new = f"elim {got[2]} [ {arms[0]} | {arms[1]} ]"
+                        text = text[:m.start()] + new + text[end:]
+                        done = True
+                        break
+                m = re.compile(r"⊎_elim\s*(?=\()").search(text, m.end())
+            if not done:
                 break
         return text
 
@@ -151,12 +273,12 @@ class Turner:
                 if got is None:
                     self.left.append(f"{name} without its arguments")
                     break
-                s, b = sig, body
+                self.count += 1
+                s, b = self.fresh([sig, body])
                 for p, a in zip(params, got):
                     f = lambda _, a=a: a
                     s = re.sub(rf"{WORDEDGE}{re.escape(p)}(?![\w'₀-₉-])", f, s)
                     b = re.sub(rf"{WORDEDGE}{re.escape(p)}(?![\w'₀-₉-])", f, b)
-                self.count += 1
                 v = "h" + str(self.count)
                 new = f"(let {v} : {s} = {b} in {v})"
                 at = m.start()
@@ -171,13 +293,14 @@ class Turner:
         if not names:
             return text
         text = self.flat(text, roots)
+        text = self.branches(text, roots)
 
         def one(m):
             return self.step([c for c in m[2].split(".") if c], m[1])
         text = re.sub(rf"{WORDEDGE}({names})((?:\.[\w'₀-₉-]+)+)", one, text)
         text = re.sub(r"\.inv(?![\w'-])", ".invariant", text)
         text = re.sub(r"\.pre(?![\w'-])", ".requires", text)
-        return re.sub(r"\.kept(?![\w'-])", ".auto", text)
+        return re.sub(r"(?<!args)\.kept(?![\w'-])", ".auto", text)
 
 
 def types(text, n, left):
@@ -372,7 +495,8 @@ def turn(path, crate, name, j, keep=False):
             f.write("\n".join(head + used(ib) + [f"use Rattle.{crate}.proofs.{mod}.Given as goal"]) + "\n\n" + ib + "\n")
     if ans:
         with open(os.path.join(folder, "Answers.antt"), "w") as f:
-            f.write("\n".join(head + used(body) + [f"use Rattle.{crate}.proofs.{mod}.Goals as goal"]) + "\n\n" + body + "\n")
+            f.write("\n".join(head + used(body) + [f"use Rattle.{crate}.proofs.{mod}.Goals as goal"]
+                    + ([f"use Rattle.{crate}.proofs.{mod}.Goals.{{{', '.join(sorted(t.tags))}}}"] if t.tags else [])) + "\n\n" + body + "\n")
     os.remove(path)
     return body.count("-- left:") , len(ans)
 

@@ -26,7 +26,7 @@ flooded_but skip {ranks} {N} {n} {t} {start} {class} {tail} {tail'} {w} {w'} e F
     subst (λ keep. Flooded keep N n t start class tail tail' w w') (ap kept e ∙ kept_but skip) F
 
 -- where the whole queue is explored all that is reached from a marked dart is marked
-pub reached_marked : {keep : ℕ → Bool} {N n tail d e : ℕ} {t w : List ℕ} → Queue n tail w → Explored keep N n t 0 tail w → d < n → Marked w d
+pub reached_marked : {keep : ℕ → Bool} {N n tail d : ℕ} {t w : List ℕ} {e : ℕ} → Queue n tail w → Explored keep N n t 0 tail w → d < n → Marked w d
     → Reached by_dart keep N n t d e → (e < n) × Marked w e
 reached_marked Q S h m Reached.here = (h, m)
 reached_marked Q S h m (Reached.onward {e} i hi k r) =

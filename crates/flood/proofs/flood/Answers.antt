@@ -21,6 +21,5 @@ pub returns : goal.returns
 returns c =
     let a = c.args in
     let p = c.requires in
-    let k = c.enter-end in
-    let F = flooding_start p.1 (p.3 _ Reached.here) p.4 k.ensures.0 k.ensures.1 in
-    flooding_end (c.flood_on.ensures a.dart a.class F) k.ensures.0 k.ensures.1 (omega arith)
+    let F = flooding_start p.1 (p.3 _ Reached.here) p.4 c.enter-end.ensures.0 c.enter-end.ensures.1 in
+    flooding_end (c.flood_on.ensures a.dart a.class F) c.enter-end.ensures.0 c.enter-end.ensures.1 (omega arith)

@@ -39,10 +39,8 @@ loop-head-smaller c =
 
 pub loop-head-preserved : goal.loop-head-preserved
 loop-head-preserved c =
-    let l = c.loop-head in
-    let k = c.spread-end in
-    let S = rw c.queued-next.ensures at k.ensures in
-    (k.auto.1.0 ∙ l.invariant.0, λ start class F. flooding_next (l.invariant.1 start class F) (omega arith) S)
+    let S = rw c.queued-next.ensures at c.spread-end.ensures in
+    (c.spread-end.auto.work ∙ c.loop-head.invariant.0, λ start class F. flooding_next (c.loop-head.invariant.1 start class F) (omega arith) S)
 
 pub returns : goal.returns
 returns c = λ start class F. flooding_over (c.loop-head.invariant.1 start class F) c.requires.2 (omega arith)

@@ -13,8 +13,7 @@ loop-i-init c = (refl, omega arith, omega arith, spread_none _ c.requires.1)
 pub enter_link-end-requires : goal.enter_link-end-requires
 enter_link-end-requires c =
     let p = c.requires in
-    let l = c.loop-i in
-    (p.0, l.invariant.3.on.queue, omega arith, p.3, p.4 l.i (omega arith) (between_yes _ _ _ (omega arith) (omega arith)))
+    (p.0, c.loop-i.invariant.3.on.queue, omega arith, p.3, p.4 c.loop-i.i (omega arith) (between_yes _ _ _ (omega arith) (omega arith)))
 
 pub overflow_add-i : goal.overflow_add-i
 overflow_add-i c = omega arith
@@ -25,16 +24,13 @@ loop-i-smaller c = omega arith
 pub loop-i-preserved : goal.loop-i-preserved
 loop-i-preserved c =
     let p = c.requires in
-    let l = c.loop-i in
-    let k = c.enter_link-end in
-    let S = l.invariant.3 in
+    let S = c.loop-i.invariant.3 in
     let e = extended_class S.on p.3 p.5 in
-    let inside = p.4 l.i (omega arith) (between_yes _ _ _ (omega arith) (omega arith)) in
-    let one = spread_one S.on.queue (omega arith) inside (rw e p.5) (rw e p.6) k.ensures.0 k.ensures.1 in
-    (k.auto.1.0 ∙ l.invariant.0, omega arith, omega arith, spread_join p.3 p.5 (λ j h. between_next c.args.from l.i j l.invariant.1) S one)
+    let inside = p.4 c.loop-i.i (omega arith) (between_yes _ _ _ (omega arith) (omega arith)) in
+    let one = spread_one S.on.queue (omega arith) inside (rw e p.5) (rw e p.6) c.enter_link-end.ensures.0 c.enter_link-end.ensures.1 in
+    (c.enter_link-end.auto.work ∙ c.loop-i.invariant.0, omega arith, omega arith, spread_join p.3 p.5 (λ j h. between_next c.args.from c.loop-i.i j c.loop-i.invariant.1) S one)
 
 pub returns : goal.returns
 returns c =
     let a = c.args in
-    let l = c.loop-i in
-    spread_same (λ j h. between_end a.from a.to l.i j (omega arith) l.invariant.2) l.invariant.3
+    spread_same (λ j h. between_end a.from a.to c.loop-i.i j (omega arith) c.loop-i.invariant.2) c.loop-i.invariant.3

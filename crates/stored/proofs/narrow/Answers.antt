@@ -15,9 +15,7 @@ pub bounds-kept-k : goal.bounds-kept-k
 bounds-kept-k c = omega arith
 
 pub returns-then-kept-k-gt65535 : goal.returns-then-kept-k-gt65535
-returns-then-kept-k-gt65535 c =
-    let l = c.loop-k in
-    wide_here _ l.k (omega arith) c.if-kept-k-gt65535.true ∙ sym l.invariant
+returns-then-kept-k-gt65535 c = wide_here _ c.loop-k.k (omega arith) c.if-kept-k-gt65535.true ∙ sym c.loop-k.invariant
 
 pub overflow_add-k : goal.overflow_add-k
 overflow_add-k c = omega arith
@@ -26,9 +24,7 @@ pub loop-k-smaller : goal.loop-k-smaller
 loop-k-smaller c = omega arith
 
 pub loop-k-preserved : goal.loop-k-preserved
-loop-k-preserved c =
-    let l = c.loop-k in
-    l.invariant ∙ narrow_next _ l.k (omega arith) c.if-kept-k-gt65535.false
+loop-k-preserved c = c.loop-k.invariant ∙ narrow_next _ c.loop-k.k (omega arith) c.if-kept-k-gt65535.false
 
 pub returns : goal.returns
-returns c = let l = c.loop-k in sym (l.invariant ∙ narrow_end _ l.k (omega arith))
+returns c = sym (c.loop-k.invariant ∙ narrow_end _ c.loop-k.k (omega arith))

@@ -4,4 +4,4 @@ use Rattle.rules.proofs.Lists.{seven}
 use Rattle.stored.proofs.stored_positions.Goals as goal
 
 pub returns : goal.returns
-returns c = seven c.args.t1 (omega arith)
+returns c = seven c.args.p (omega arith)

@@ -4,8 +4,8 @@ use Rattle.symbols.proofs.Cursor.take_symbol.Goals as goal
 
 pub take-requires : goal.take-requires
 take-requires c =
-    let (n, r) = (let h1 : let a = c.args in
-    let h = c.in-Is.hand in Needed h × Reads a.self h a.page.now = rw c.in-Is.is at c.first.ensures in h1) in (r.in_hand.fits, n)
+    let (n, r) = (let h1 : let a_1 = c.args in
+    let h_1 = c.in-Is.hand in Needed h_1 × Reads a_1.self h_1 a_1.page.now = rw c.in-Is.is at c.first.ensures in h1) in (r.in_hand.fits, n)
 
 pub returns-in-Out : goal.returns-in-Out
 unfolding Starts
@@ -21,5 +21,5 @@ returns-in-Border c = rw c.in-Border.is at c.first.ensures
 
 pub returns-in-Is : goal.returns-in-Is
 returns-in-Is c =
-    c.take.ensures _ (let h2 : let a = c.args in
-    let h = c.in-Is.hand in Needed h × Reads a.self h a.page.now = rw c.in-Is.is at c.first.ensures in h2).1
+    c.take.ensures _ (let h2 : let a_2 = c.args in
+    let h_2 = c.in-Is.hand in Needed h_2 × Reads a_2.self h_2 a_2.page.now = rw c.in-Is.is at c.first.ensures in h2).1
