@@ -157,6 +157,13 @@ class Turner:
         self.left.append(f"no step {head}")
         return root + "".join("." + c for c in comps)
 
+    def reaches(self, text, helper, deep=5):
+        if re.search(rf"{WORDEDGE}{re.escape(helper)}(?![\w.'₀-₉-])", text):
+            return True
+        return deep > 0 and any(
+            re.search(rf"{WORDEDGE}{re.escape(h)}(?![\w.'₀-₉-])", text) and self.reaches(b, helper, deep - 1)
+            for h, (_, _, b) in self.helpers.items())
+
     def put(self, name, value, text):
         """value for name, up to where the name is bound anew"""
         sub = lambda s: re.sub(rf"{WORDEDGE}{re.escape(name)}(?![\w'₀-₉-])", lambda _: value, s)
@@ -402,12 +409,16 @@ def turn(path, crate, name, j, keep=False):
             root = args[0] if args else None
             place = n.place(oldp)
             roots = {root: place} if root else {}
-            for h, u in getattr(t, "unfold", {}).items():
-                if re.search(rf"{WORDEDGE}{re.escape(h)}(?![\w.'₀-₉-])", eq):
-                    t.left.append(f"{h} has its own {u.strip()}")
+            for h, u in reversed(list(getattr(t, "unfold", {}).items())):
+                if t.reaches(eq, h):
+                    have = unf.split()[1:]
+                    more = [x for x in u.split()[1:] if x not in have]
+                    unf = "unfolding " + " ".join(have + more) + "\n"
             extra = [a for a in args[1:] if a != "κs"]
             before = len(t.left)
             eq2 = t.body(eq, roots)
+            # the length of an array's values is said of the array itself
+            eq2 = re.sub(r"sym \(length-map \S+ \(λ (\w+)\. \1\)\) ∙ ", "", eq2)
             # a test of `!x` tells what x is
             eq2 = re.sub(r"\(not-(?:true|false) \S+ (c\.if-not[\w-]*\.(?:true|false))\)", r"\1", eq2)
             eq2 = re.sub(r"not-(?:true|false) \S+ (c\.if-not[\w-]*\.(?:true|false))", r"\1", eq2)

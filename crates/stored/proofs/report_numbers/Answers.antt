@@ -6,5 +6,5 @@ use Rattle.stored.proofs.report_numbers.Goals as goal
 
 pub returns : goal.returns
 returns c =
-    let e : length c.args.a.cells ≡ 7 = sym (length-map c.args.a.cells (λ v. v)) ∙ c.well_formed.0.1.1.1.1.0.1.0.1 in
+    let e : length c.args.a.cells ≡ 7 = c.well_formed.0.1.1.1.1.0.1.0.1 in
     reported_by c.args.a e _ c.flag.ensures
