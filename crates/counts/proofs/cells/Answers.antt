@@ -50,7 +50,7 @@ loop-tail-preserved c =
     let hd = (let h3 : c.loop-tail.d < c.args.darts = swept_more c.loop-tail.invariant.2 c.loop-tail-test.true in h3) in
     elim c.if-work-d.branch [ then-work-d w ↦ let F = flooded_but skip c.all_but-ranks.ensures w.flood-tail.ensures in
     let kept = (flooded_on R.queue (omega (arith, hd)) (omega arith) F).past ∙ past in
-    rw (w.EQUATION0-is, w.EQUATION1-is, w.EQUATION2-is) (w.flood-tail.auto.work ∙ same, omega (arith, hd), swept_new v R hd w.if-work-d.true F, kept) | else-work-d w ↦ rw (w.EQUATION0-is, w.EQUATION1-is, w.EQUATION2-is) (same, omega (arith, hd), swept_old v R hd w.if-work-d.false, past) ]
+    rw (w.work-is, w.found-is, w.tail-is) (w.flood-tail.auto.work ∙ same, omega (arith, hd), swept_new v R hd w.if-work-d.true F, kept) | else-work-d w ↦ rw (w.work-is, w.found-is, w.tail-is) (same, omega (arith, hd), swept_old v R hd w.if-work-d.false, past) ]
 
 pub returns : goal.returns
 returns c =

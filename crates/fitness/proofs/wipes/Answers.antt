@@ -6,65 +6,64 @@ use native.Mathlib.Omega.{arith}
 use borrow.Author.Tests.{ne_eqb}
 use Rattle.rules.specs.Refusals.{among, of_index, in_step, at_end}
 use Rattle.rules.specs.Refusals as refusals
-use Rattle.fitness.proofs.wipes.Statement.{statement}
-use Rattle.fitness.proofs.wipes.Tie as tie
+use Rattle.fitness.proofs.wipes.Goals as goal
 
 arm : (nr k : ℕ) → nr ≡ k → refusals.wipes k ≡ true → true ≡ refusals.wipes nr
 arm nr k e w = sym (rw e w)
 
-returns : tie.Need-returns
+pub returns-in-11 : goal.returns-in-11
 unfolding refusals.wipes of_index in_step at_end among
-returns c = arm c.before.args.number 11 (omega arith) refl
+returns-in-11 c = arm c.args.number 11 (omega arith) refl
 
-returns-2 : tie.Need-returns-2
+pub returns-in-12 : goal.returns-in-12
 unfolding refusals.wipes of_index in_step at_end among
-returns-2 c = arm c.before.args.number 12 (omega arith) refl
+returns-in-12 c = arm c.args.number 12 (omega arith) refl
 
-returns-3 : tie.Need-returns-3
+pub returns-in-13 : goal.returns-in-13
 unfolding refusals.wipes of_index in_step at_end among
-returns-3 c = arm c.before.args.number 13 (omega arith) refl
+returns-in-13 c = arm c.args.number 13 (omega arith) refl
 
-returns-4 : tie.Need-returns-4
+pub returns-in-14 : goal.returns-in-14
 unfolding refusals.wipes of_index in_step at_end among
-returns-4 c = arm c.before.args.number 14 (omega arith) refl
+returns-in-14 c = arm c.args.number 14 (omega arith) refl
 
-returns-5 : tie.Need-returns-5
+pub returns-in-15 : goal.returns-in-15
 unfolding refusals.wipes of_index in_step at_end among
-returns-5 c = arm c.before.args.number 15 (omega arith) refl
+returns-in-15 c = arm c.args.number 15 (omega arith) refl
 
-returns-6 : tie.Need-returns-6
+pub returns-in-16 : goal.returns-in-16
 unfolding refusals.wipes of_index in_step at_end among
-returns-6 c = arm c.before.args.number 16 (omega arith) refl
+returns-in-16 c = arm c.args.number 16 (omega arith) refl
 
-returns-7 : tie.Need-returns-7
+pub returns-in-17 : goal.returns-in-17
 unfolding refusals.wipes of_index in_step at_end among
-returns-7 c = arm c.before.args.number 17 (omega arith) refl
+returns-in-17 c = arm c.args.number 17 (omega arith) refl
 
-returns-8 : tie.Need-returns-8
+pub returns-in-18 : goal.returns-in-18
 unfolding refusals.wipes of_index in_step at_end among
-returns-8 c = arm c.before.args.number 18 (omega arith) refl
+returns-in-18 c = arm c.args.number 18 (omega arith) refl
 
-returns-9 : tie.Need-returns-9
+pub returns-in-21 : goal.returns-in-21
 unfolding refusals.wipes of_index in_step at_end among
-returns-9 c = arm c.before.args.number 21 (omega arith) refl
+returns-in-21 c = arm c.args.number 21 (omega arith) refl
 
-returns-10 : tie.Need-returns-10
+pub returns-in-22 : goal.returns-in-22
 unfolding refusals.wipes of_index in_step at_end among
-returns-10 c = arm c.before.args.number 22 (omega arith) refl
+returns-in-22 c = arm c.args.number 22 (omega arith) refl
 
-returns-11 : tie.Need-returns-11
+pub returns-in-23 : goal.returns-in-23
 unfolding refusals.wipes of_index in_step at_end among
-returns-11 c = arm c.before.args.number 23 (omega arith) refl
+returns-in-23 c = arm c.args.number 23 (omega arith) refl
 
-returns-12 : tie.Need-returns-12
+pub returns-in-30 : goal.returns-in-30
 unfolding refusals.wipes of_index in_step at_end among
-returns-12 c = arm c.before.args.number 30 (omega arith) refl
+returns-in-30 c = arm c.args.number 30 (omega arith) refl
 
-returns-13 : tie.Need-returns-13
+pub returns-in_default : goal.returns-in_default
 unfolding refusals.wipes of_index in_step at_end among
-returns-13 c =
-    let nr = c.before.args.number in
-    let r = c.match.rest in
+returns-in_default c =
+    let nr = c.args.number in
+    let r = c.in-11.rest in
     rw (
       ne_eqb nr 11 r.0.0.0.0.0.0.0.0.0.0.0.1,
       ne_eqb nr 12 r.0.0.0.0.0.0.0.0.0.0.1,
@@ -79,21 +78,3 @@ returns-13 c =
       ne_eqb nr 23 r.0.1,
       ne_eqb nr 30 r.1,
     )
-
-pub wipes-spec : {M : Type 1} → statement M
-wipes-spec =
-    tie.close
-    (tie.spec
-    returns
-    returns-2
-    returns-3
-    returns-4
-    returns-5
-    returns-6
-    returns-7
-    returns-8
-    returns-9
-    returns-10
-    returns-11
-    returns-12
-    returns-13)
