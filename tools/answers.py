@@ -312,6 +312,9 @@ class Turner:
         text = re.sub(rf"{WORDEDGE}({names})((?:\.[\w'₀-₉-]+)+)", one, text)
         text = re.sub(r"\.inv(?![\w'-])", ".invariant", text)
         text = re.sub(r"\.pre(?![\w'-])", ".requires", text)
+        for a, b in self.n.args:
+            if a.startswith(".args ."):
+                text = re.sub(rf"(?<=\w\.){re.escape(a[7:])}(?![\w'-])", b[7:], text)
         return re.sub(r"(?<!args)\.kept(?![\w'-])", ".auto", text)
 
 

@@ -25,7 +25,7 @@ loop-j-smaller c = omega arith
 pub loop-j-preserved : goal.loop-j-preserved
 loop-j-preserved c =
     let a = c.args in
-    (omega arith, emptied_next a.count a.t3 c.loop-j.j c.loop-j.invariant.1 c.if-positions-j.false)
+    (omega arith, emptied_next a.count a.positions c.loop-j.j c.loop-j.invariant.1 c.if-positions-j.false)
 
 pub returns : goal.returns
 returns c = record { lower = c.loop-j.invariant.1; some = λ h. absurd (omega arith) }

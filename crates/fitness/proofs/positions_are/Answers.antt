@@ -17,7 +17,7 @@ bounds-positions-i c = omega arith
 pub returns-then-positions-i : goal.returns-then-positions-i
 returns-then-positions-i c =
     let a = c.args in
-    fails_at _ _ c.loop-i.i (omega arith) (is_no a.t3 a.x c.loop-i.i c.if-positions-i.true)
+    fails_at _ _ c.loop-i.i (omega arith) (is_no a.positions a.x c.loop-i.i c.if-positions-i.true)
 
 pub overflow_add-i : goal.overflow_add-i
 overflow_add-i c = omega arith
@@ -28,7 +28,7 @@ loop-i-smaller c = omega arith
 pub loop-i-preserved : goal.loop-i-preserved
 loop-i-preserved c =
     let a = c.args in
-    passed_next c.loop-i.invariant (omega arith) (is_yes a.t3 a.x c.loop-i.i c.if-positions-i.false)
+    passed_next c.loop-i.invariant (omega arith) (is_yes a.positions a.x c.loop-i.i c.if-positions-i.false)
 
 pub returns : goal.returns
 returns c = passed_end c.loop-i.invariant (omega arith)

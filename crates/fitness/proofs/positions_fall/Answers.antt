@@ -18,7 +18,7 @@ bounds-positions-i c = omega arith
 pub returns-then-above-positions : goal.returns-then-above-positions
 returns-then-above-positions c =
     let a = c.args in
-    fails_at _ _ c.loop-i.i (omega arith) (falls_no a.count c.loop-i.above a.t3 c.loop-i.i c.loop-i.invariant.1 c.if-above-positions.true)
+    fails_at _ _ c.loop-i.i (omega arith) (falls_no a.count c.loop-i.above a.positions c.loop-i.i c.loop-i.invariant.1 c.if-above-positions.true)
 
 pub offset_bounds-positions-i-in-loop-i : goal.offset_bounds-positions-i-in-loop-i
 offset_bounds-positions-i-in-loop-i c = omega arith
@@ -35,7 +35,7 @@ loop-i-smaller c = omega arith
 pub loop-i-preserved : goal.loop-i-preserved
 loop-i-preserved c =
     let a = c.args in
-    (passed_next c.loop-i.invariant.0 (omega arith) (falls_yes a.count c.loop-i.above a.t3 c.loop-i.i c.loop-i.invariant.1 c.if-above-positions.false), next_above a.count a.t3 c.loop-i.i)
+    (passed_next c.loop-i.invariant.0 (omega arith) (falls_yes a.count c.loop-i.above a.positions c.loop-i.i c.loop-i.invariant.1 c.if-above-positions.false), next_above a.count a.positions c.loop-i.i)
 
 pub returns : goal.returns
 returns c = passed_end c.loop-i.invariant.0 (omega arith)

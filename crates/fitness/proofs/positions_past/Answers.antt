@@ -20,7 +20,7 @@ bounds-positions-i c = omega arith
 pub returns-then-positions-i-ne0 : goal.returns-then-positions-i-ne0
 returns-then-positions-i-ne0 c =
     let a = c.args in
-    fails_at _ _ c.loop-i.i (omega arith) (past_no a.dim a.t2 c.loop-i.i c.loop-i.invariant.1 c.if-positions-i-ne0.true)
+    fails_at _ _ c.loop-i.i (omega arith) (past_no a.dim a.positions c.loop-i.i c.loop-i.invariant.1 c.if-positions-i-ne0.true)
 
 pub overflow_add-i-in-loop-i : goal.overflow_add-i-in-loop-i
 overflow_add-i-in-loop-i c = omega arith
@@ -31,7 +31,7 @@ loop-i-smaller c = omega arith
 pub loop-i-preserved : goal.loop-i-preserved
 loop-i-preserved c =
     let a = c.args in
-    (passed_next c.loop-i.invariant.0 (omega arith) (past_yes a.dim a.t2 c.loop-i.i c.if-positions-i-ne0.false), omega arith)
+    (passed_next c.loop-i.invariant.0 (omega arith) (past_yes a.dim a.positions c.loop-i.i c.if-positions-i-ne0.false), omega arith)
 
 pub returns : goal.returns
 returns c = passed_end c.loop-i.invariant.0 (omega arith)

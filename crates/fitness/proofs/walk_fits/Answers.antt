@@ -1,5 +1,6 @@
 -- `fitness::walk_fits` meets its contract: each answer is what the tests before it leave. Assumes nothing.
-use mathlib.Core.Path.{sym, ◌∙◌}
+use mathlib.Core.Bool.{not}
+use mathlib.Core.Path.{ap, sym, ◌∙◌}
 use native.Mathlib.Omega.{arith}
 use borrow.Author.Rules.{rules}
 use Rattle.fitness.proofs.Laws.{Sized, falls_below, falls_last, few_entries, walk_low, walk_high, walk_none, walk_many, walk_short, walk_empty}
@@ -31,13 +32,13 @@ pub returns-then-darts-s : goal.returns-then-darts-s
 returns-then-darts-s c = walk_over _ _ c.if-darts-s.true
 
 pub returns-then-not-bodies_fit : goal.returns-then-not-bodies_fit
-returns-then-not-bodies_fit c = walk_bodies _ _ _ c.bodies_fit.ensures c.if-not-bodies_fit.true
+returns-then-not-bodies_fit c = walk_bodies _ _ _ c.bodies_fit.ensures (ap not c.if-not-bodies_fit.true)
 
 pub returns-then-not-positions_fall : goal.returns-then-not-positions_fall
-returns-then-not-positions_fall c = walk_rising _ _ _ c.positions_fall.ensures c.if-not-positions_fall.true
+returns-then-not-positions_fall c = walk_rising _ _ _ c.positions_fall.ensures (ap not c.if-not-positions_fall.true)
 
 pub returns-then-not-positions_past : goal.returns-then-not-positions_past
-returns-then-not-positions_past c = walk_past _ _ _ c.positions_fall.ensures _ c.positions_past.ensures c.if-not-positions_past.true
+returns-then-not-positions_past c = walk_past _ _ _ c.positions_fall.ensures _ c.positions_past.ensures (ap not c.if-not-positions_past.true)
 
 pub entries_fit-requires : goal.entries_fit-requires
 entries_fit-requires c =
@@ -55,4 +56,4 @@ returns c =
       room = c.if-tables-dim.false;
       first = c.if-s-lt1.false;
       within = c.if-darts-s.false;
-    } in h1) _ c.bodies_fit.ensures c.if-not-bodies_fit.false c.if-not-positions_fall.false c.if-not-positions_past.false _ c.entries_fit.ensures
+    } in h1) _ c.bodies_fit.ensures (ap not c.if-not-bodies_fit.false) c.if-not-positions_fall.false c.if-not-positions_past.false _ c.entries_fit.ensures
