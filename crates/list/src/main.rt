@@ -4,8 +4,9 @@
 
 ghost use Rattle.std.specs.Prelude.{◌≡◌, length};
 
-use libc::{STDIN_FILENO, STDOUT_FILENO};
 use rules::{Form, ReadAnswer, Session};
+use std::io;
+use std::io::{Read, Write};
 
 // A session after a page, and whether the input goes on.
 #[derive(Clone, Copy)]
@@ -14,11 +15,17 @@ pub struct Fed {
     pub more: bool,
 }
 
+// Room for a page of the input.
+fn page_room() -> [u8; 4096]
+    ensures { 4096 ≡ length result }
+{
+    [0; 4096]
+}
+
 // One page of the input. A read that fails counts as the input's end.
-fn feed(s: Session, tables: &mut [u16]) -> Fed {
-    let mut page = io::buffer();
-    let got = libc::read(STDIN_FILENO, &mut page);
-    let n = io::count(got, &page);
+fn feed<R: Read>(input: &mut R, s: Session, tables: &mut [u16]) -> Fed {
+    let mut page = page_room();
+    let n = input.read(&mut page).unwrap_or(0);
     if n == 0 {
         return Fed {
             session: s,
@@ -34,17 +41,15 @@ fn feed(s: Session, tables: &mut [u16]) -> Fed {
 }
 
 // Every page of the input; no input has 2^64 pages.
-fn feed_all(s: Session, tables: &mut [u16]) -> Session {
+fn feed_all<R: Read>(input: &mut R, s: Session, tables: &mut [u16]) -> Session {
     let mut session = s;
-    let mut turns = u64::MAX;
-    while turns > 0 {
-        let f = feed(session, tables);
+    for _ in 0..u64::MAX {
+        let f = feed(input, session, tables);
         session = f.session;
         let more = f.more;
         if !more {
             return session;
         }
-        turns -= 1;
     }
     session
 }
@@ -71,20 +76,22 @@ fn text_room() -> [u8; 688407]
 }
 
 // The listing, as one text; the report is that of the stream's form.
-fn print(form: Form, a: ReadAnswer, tables: &[u16]) {
+fn print<W: Write>(output: &mut W, form: Form, a: ReadAnswer, tables: &[u16]) -> io::Result<()> {
     let mut work = work_room();
     let mut out = text_room();
     let r = report::report(form, a.dim as usize, a.darts as usize, tables, &mut work);
     let n = listing::put(&mut out, a, r, tables);
-    io::write_all(STDOUT_FILENO, &out[..n]);
+    output.write_all(&out[..n])
 }
 
-fn main() {
+fn main(rt: HostRuntime) -> io::Result<()> {
     let mut tables = tables_room();
-    let session = feed_all(Session::open(), &mut tables);
+    let mut input = rt.stdin();
+    let session = feed_all(&mut input, Session::open(), &mut tables);
     let p = reader::close(session, &mut tables);
     let closed = p.session;
     let form = closed.form;
     let answer = p.answer;
-    print(form, answer, &tables);
+    let mut output = rt.stdout();
+    print(&mut output, form, answer, &tables)
 }
