@@ -244,8 +244,11 @@ class Turner:
                         arms = []
                         for first, word, side in ((then, "then", got[0]), (els, "else", got[1])):
                             ways = self.chain(first)
-                            h = re.fullmatch(r"\(λ (\w+)\.\s*(.*)\)", side, re.S)
-                            w, body = h[1], h[2]
+                            h = re.fullmatch(r"\(λ ([\w'₀-₉]+)\.\s*(.*)\)", side, re.S)
+                            if h:
+                                w, body = h[1], h[2]
+                            else:
+                                w, body = "w", side + " w"
 
                             def field(mm, ways=ways, w=w):
                                 k = int(mm[1])
@@ -259,6 +262,8 @@ class Turner:
                                     return f"{w}.{ways[k]['step'][1]}{rest}"
                                 return f"{w}.EQUATION{k - len(ways)}-is{mm[2]}"
                             body = re.sub(rf"{WORDEDGE}{w}\.(\d+)((?:\.[\w'-]+)*)", field, body)
+                            body = re.sub(rf"{WORDEDGE}{w}\.(taken|left|true|false)(?![\w'-])", lambda mm: f"{w}.{ways[0]['step'][1]}." +
+                                          {"taken": "true", "left": "false"}.get(mm[1], mm[1]), body)
                             tag = "+".join(("then" if q["old"].startswith("Then") else "else") + q["step"][1].removeprefix("if")
                                            for q in ways if q["old"].startswith(("Then", "Else")))
                             self.tags.add(tag)
@@ -307,6 +312,9 @@ class Turner:
         text = re.sub(rf"{WORDEDGE}({names})((?:\.[\w'₀-₉-]+)+)", one, text)
         text = re.sub(r"\.inv(?![\w'-])", ".invariant", text)
         text = re.sub(r"\.pre(?![\w'-])", ".requires", text)
+        for a, b in self.n.args:
+            if a.startswith(".args ."):
+                text = re.sub(rf"(?<=\w\.){re.escape(a[7:])}(?![\w'-])", b[7:], text)
         return re.sub(r"(?<!args)\.kept(?![\w'-])", ".auto", text)
 
 

@@ -100,7 +100,7 @@ take_index-requires c =
     let o_27 = grown_none c.requires.0 n_27 in
     elim c.if-self-lt2.branch [ then-self-lt2+else-page-self w_27 ↦ let l_27 = w_27.loaded-hand.ensures in
     rw w_27.hand-is (grown_more o_27 w_27.if-page-self.false (omega (arith, w_27.if-self-lt2.true)) l_27, omega (arith, more_size l_27), omega (arith, l_27.more, n_27.some)) | else-self-lt2 w_27 ↦ rw w_27.hand-is (o_27, k_27, omega (arith, w_27.if-self-lt2.false)) ] in h27).1 in
-    size_kinds _ (λ q_25. absurd (omega (arith, q_25))) (λ q_25. c.if-size-eq2.false ((let h28 : c.size-2.result ≡ size (held c.if-self-lt2.hand) = c.size-2.ensures ∙ head_size (let h31 : let a_31 = c.args in
+    size_kinds (held c.if-self-lt2.hand) (λ q_25. absurd (omega (arith, q_25))) (λ q_25. c.if-size-eq2.false ((let h28 : c.size-2.result ≡ size (held c.if-self-lt2.hand) = c.size-2.ensures ∙ head_size (let h31 : let a_31 = c.args in
     let h_31 = c.if-self-lt2.hand in Grown a_31.self h_31 a_31.page.now × (2 ≤ size (held h_31)) × (2 ≤ h_31.bits) = let k_31 = (let h33 : 2 ≤ size (held c.args.self) = omega (arith, (size_range (held c.args.self)).0, (let h34 : let a_34 = c.args in c.size.result ≡ size (held a_34.self) = c.size.ensures ∙ head_size c.requires.0 in h34), c.if-size-eq1.false) in h33) in
     let n_31 = c.requires.1 in
     let o_31 = grown_none c.requires.0 n_31 in
