@@ -19,7 +19,7 @@ def norm(s):
 
 
 def references():
-    """crate::path::function -> its parameters that are references"""
+    """crate::path::function -> its parameters"""
     out = {}
     for folder, dirs, files in os.walk("crates"):
         for f in files:
@@ -36,8 +36,7 @@ def references():
                         if not prm:
                             continue
                         nm, _, tp = prm.partition(":")
-                        if tp.strip().startswith("&") or nm.startswith("&"):
-                            ps.append(nm.strip().lstrip("&").replace("mut ", "").strip())
+                        ps.append(nm.strip().lstrip("&").replace("mut ", "").strip())
                     out["::".join(x for x in (crate, owner, m[1]) if x)] = ps
     return out
 
@@ -146,6 +145,8 @@ class Turner:
                 rest = comps[1:]
                 if rest:
                     rest[0] = {"taken": "true", "left": "false", "inv": "invariant", "kept": "auto"}.get(rest[0], rest[0])
+                    if rest[0] == "last" and q["callee"]:
+                        rest[0] = "new"
                 if rest and rest[0] in ("auto", "new") and len(rest) > 1 and q["callee"]:
                     ps = REFS.get(q["callee"])
                     ones = 0
@@ -196,7 +197,7 @@ class Turner:
         navs = "|".join(re.escape(x) for x in self.nav) or "$^"
         for _ in range(40):
             before = text
-            text = re.sub(rf"{WORDEDGE}({names})(?:\.before)+", r"\1", text)
+            text = re.sub(rf"{WORDEDGE}({names})(?:\.before(?![\w-]))+", r"\1", text)
             text = re.sub(rf"{WORDEDGE}(?:{navs}) ({names})(?![\w.'₀-₉-])", r"\1", text)
             text = re.sub(rf"(?<=[\s(])\(({names})\)", r"\1", text)
             text = re.sub(rf"^\(({names})\)", r"\1", text)
@@ -253,7 +254,7 @@ class Turner:
                             def field(mm, ways=ways, w=w):
                                 k = int(mm[1])
                                 if k < len(ways):
-                                    rest = mm[2].replace(".taken", ".true").replace(".left", ".false").replace(".kept", ".auto")
+                                    rest = mm[2].replace(".taken", ".true").replace(".left", ".false").replace(".kept", ".auto").replace(".last", ".new")
                                     cal = ways[k]["callee"]
                                     z = re.match(r"\.(auto|new)((?:\.1)*)\.0(.*)$", rest)
                                     ps = REFS.get(cal or "")
@@ -385,7 +386,7 @@ def turn(path, crate, name, j, keep=False):
                 to[p] = f"l.initial.{v}" if c else f"l.{v}"
             for p, v in zip(params[len(variables):], ch):
                 to[p] = f"l.{v}"
-            eq = re.sub(r"(?<![\w.'₀-₉-])([A-Za-z_][\w'₀-₉-]*)(?![\w'₀-₉-])", lambda q: to.get(q[1], q[1]), eq)
+            eq = re.sub(r"(?<![\w.'₀-₉-])([A-Za-z_][\w'₀-₉-]*)(?![\w'₀-₉-])(?! = )", lambda q: to.get(q[1], q[1]), eq)
             sigs = f"abbrev pub {kind}-{newloop} : goal.{kind}-{newloop}\n"
             inv.append("\n".join(comments + [sigs + f"{kind}-{newloop} l =" + (" " if "\n" not in eq else "\n    ") + eq.strip()]))
             continue
@@ -446,7 +447,14 @@ def turn(path, crate, name, j, keep=False):
             # take the arguments off the type
             left = ty.strip()
             good = True
+            prefix = ""
             for prm in params:
+                while True:
+                    g = re.match(r"let \w+ = .*? in\s+", left, re.S)
+                    if not g:
+                        break
+                    prefix += g[0]
+                    left = left[g.end():]
                 g = re.match(r"\(([\w'₀-₉ ]+) : ", left)
                 if g:
                     got, end = atoms(left, 0, 1)
@@ -473,7 +481,7 @@ def turn(path, crate, name, j, keep=False):
                 if re.match(r"tie\.[\w'-]+\s*$", left):
                     t.nav[name2] = True
                 else:
-                    t.helpers[name2] = (params, left, eq)
+                    t.helpers[name2] = (params, prefix + left, eq)
                     if unf:
                         t.unfold = getattr(t, "unfold", {})
                         t.unfold[name2] = unf

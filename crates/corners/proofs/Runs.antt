@@ -163,6 +163,7 @@ module _ (t : List ℕ) where
       → (q : ℕ) × Run (length (all_corners c fs)) (begun p) (map bare (all_corners c fs)) (begun q)
   unfolding all_corners several corners
   faces_run [] gs none c k p x e = (p, stay)
+  faces_run ([] ∷ fs) gs x7 c k p x e = elim x7 [ ]
   faces_run ((v ∷ vs) ∷ fs) gs (more f) c zero p x e = let u : ◌≡◌ {A = ℕ} 0 1 = cc in absurd (omega arith)
   faces_run ((v ∷ vs) ∷ fs) gs (more f) c (suc k) p x e =
       let s = several_split (face t) k p ((v ∷ vs) ∷ (fs ++ gs)) x e in

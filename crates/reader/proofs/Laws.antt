@@ -261,6 +261,23 @@ module _ (s : Session) (t : List ℕ) (seven : length s.positions ≡ 7) (e : fi
       go (FitSession.closed z) = other s.state Header Closed q z (omega arith)
       go (FitSession.refused nr p z f) = other s.state Header (Refused nr p) q z (omega arith)
 
+  waiting_bits : (w : Walk) (bs : List Bool) → s ≡ held Running w bs → bits_of s.waiting s.value ≡ bs
+  unfolding waiting_of
+  waiting_bits w bs es = ap waiting_of es ∙ waiting_held Running w bs
+
+  -- what a running record keeps of its walk and bits
+  dim_held : (w : Walk) (bs : List Bool) → s ≡ held Running w bs → s.dim ≡ w.dim
+  unfolding held
+  dim_held w bs es = ap (λ (x : Session). x.dim) es
+
+  waiting_length : (w : Walk) (bs : List Bool) → s ≡ held Running w bs → s.waiting ≡ length bs
+  unfolding held
+  waiting_length w bs es = ap (λ (x : Session). x.waiting) es
+
+  waiting_value : (w : Walk) (bs : List Bool) → s ≡ held Running w bs → s.value ≡ value bs
+  unfolding held
+  waiting_value w bs es = ap (λ (x : Session). x.value) es
+
   -- a running one may go on
   pub running_ready : (page : List ℕ) → s.state ≡ Running → Ready s.dim s.darts (stand_of s) (cursor_of s) t page
   running_ready page q = go (fit_session by_dart s t seven e)
@@ -273,10 +290,10 @@ module _ (s : Session) (t : List ℕ) (seven : length s.positions ≡ 7) (e : fi
           walking es et =
               let p : walk_at by_dart s.dim s.darts (stand_of s) t ≡ w = (λ i. walk_of by_dart (es i) (et i))
               ∙ walk_held by_dart Running w bs d.0 v.shape in
-              let b : bits_of s.waiting s.value ≡ bs = unfold waiting_of in ap waiting_of es ∙ waiting_held Running w bs in
-              let ed : s.dim ≡ w.dim = unfold held in ap (λ (x : Session). x.dim) es in
-              let ew : s.waiting ≡ length bs = unfold held in ap (λ (x : Session). x.waiting) es in
-              let ev : s.value ≡ value bs = unfold held in ap (λ (x : Session). x.value) es in
+              let b : bits_of s.waiting s.value ≡ bs = waiting_bits w bs es in
+              let ed : s.dim ≡ w.dim = dim_held w bs es in
+              let ew : s.waiting ≡ length bs = waiting_length w bs es in
+              let ev : s.value ≡ value bs = waiting_value w bs es in
               record {
                 inv = rw p v;
                 rests = rw p (asks_rests w bs a);

@@ -28,7 +28,7 @@ way_kept tree tree' h (goes {at = at} k w e) = goes k (way_kept tree tree' h w) 
 path_way : (tree keys : List ℕ) (key : ℕ) {j rest at r : ℕ} → Way tree key j rest at → Path tree keys key rest at (Free r)
     → (i : ℕ) × (left : ℕ) × Way tree key i left r
 path_way tree keys key {j} {rest} w (free e) = (j, rest, w)
-path_way tree keys key w (onward k e n p) = path_way tree keys key (goes k w e) p
+path_way tree keys key {j = j} {r = r} w (onward {rest = rest} {at = at} k e n p) = path_way tree keys key {j = suc j} (goes k w e) p
 
 -- a tree with no corner
 pub sown_none : (tree keys : List ℕ) → ((at : ℕ) → get_or tree at 0 ≡ 0) → Sown tree keys
@@ -179,7 +179,8 @@ module _ (tree keys : List ℕ) (s : Sown tree keys) (key : ℕ) (n : Narrow key
   unfolding looked
   left_to_look w h (free e) = omega arith
   left_to_look w h (found k e f) = omega arith
-  left_to_look w h (onward k e d p) = omega (arith, left_to_look (goes k w e) (omega (arith, passes k w e d)) p)
+  left_to_look {j = j} w h (onward {rest = rest} {at = at} {r = r} k e d p) =
+      omega (arith, left_to_look {j = suc j} (goes k w e) (omega (arith, passes k w e d)) p)
 
 -- so a search in a swept table looks at 31 corners at most, whatever the keys
 pub search_short : (tree keys twins : List ℕ) (kf : ℕ → ℕ) (m j : ℕ) → Swept tree keys twins kf m j → ((y : ℕ) → y < m → Narrow (kf y))

@@ -4,6 +4,7 @@ use mathlib.Core.Logic.{⊎_elim}
 use native.Mathlib.Omega.{arith}
 use Rattle.fitness.proofs.Laws.{tallied_start, tallied_pass, tallied_fail, tallied_end, open_blank, open_known, open_no}
 use Rattle.fitness.proofs.open_fit.Goals as goal
+use Rattle.fitness.proofs.open_fit.Goals.{then-x+then-count-x, then-x+else-count-x, else-x}
 use Rattle.fitness.proofs.open_fit.Goals.{else-x, then-x+else-count-x}
 
 pub loop-k-init : goal.loop-k-init
@@ -27,9 +28,11 @@ loop-k-smaller c = omega arith
 pub loop-k-preserved : goal.loop-k-preserved
 loop-k-preserved c =
     let a = c.args in
-    elim c.if-x.branch [ then-x+else-count-x w ↦ rw w.EQUATION0-is (tallied_fail c.loop-k.invariant (omega arith) (open_no _ a.count c.loop-k.k w.if-x.true w.if-count-x.true)) | else-x w ↦ (⊎_elim
-    (λ w. rw w.EQUATION1-is (tallied_pass c.loop-k.invariant (omega arith) (open_known _ a.count c.loop-k.k w.EQUATION0-is.left)))
-    (λ w. rw w.EQUATION0-is (tallied_pass c.loop-k.invariant (omega arith) (open_blank _ a.count c.loop-k.k w.if-x.false)))) w ]
+    let l = c.loop-k in
+    elim c.if-x.branch [
+      then-x+then-count-x w ↦ rw w.bad-is (tallied_fail l.invariant (omega arith) (open_no _ a.count l.k w.if-x.true w.if-count-x.true))
+    | then-x+else-count-x w ↦ rw w.bad-is (tallied_pass l.invariant (omega arith) (open_known _ a.count l.k w.if-count-x.false))
+    | else-x w ↦ rw w.bad-is (tallied_pass l.invariant (omega arith) (open_blank _ a.count l.k w.if-x.false)) ]
 
 pub returns : goal.returns
 returns c = tallied_end c.loop-k.invariant (omega arith)

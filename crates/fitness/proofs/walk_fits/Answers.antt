@@ -56,4 +56,4 @@ returns c =
       room = c.if-tables-dim.false;
       first = c.if-s-lt1.false;
       within = c.if-darts-s.false;
-    } in h1) _ c.bodies_fit.ensures (ap not c.if-not-bodies_fit.false) c.if-not-positions_fall.false c.if-not-positions_past.false _ c.entries_fit.ensures
+    } in h1) _ c.bodies_fit.ensures (ap not c.if-not-bodies_fit.false) (ap not c.if-not-positions_fall.false) (ap not c.if-not-positions_past.false) _ c.entries_fit.ensures

@@ -63,18 +63,17 @@ pub returns-in_default : goal.returns-in_default
 unfolding refusals.wipes of_index in_step at_end among
 returns-in_default c =
     let nr = c.args.number in
-    let r = c.in-11.rest in
     rw (
-      ne_eqb nr 11 r.0.0.0.0.0.0.0.0.0.0.0.1,
-      ne_eqb nr 12 r.0.0.0.0.0.0.0.0.0.0.1,
-      ne_eqb nr 13 r.0.0.0.0.0.0.0.0.0.1,
-      ne_eqb nr 14 r.0.0.0.0.0.0.0.0.1,
-      ne_eqb nr 15 r.0.0.0.0.0.0.0.1,
-      ne_eqb nr 16 r.0.0.0.0.0.0.1,
-      ne_eqb nr 17 r.0.0.0.0.0.1,
-      ne_eqb nr 18 r.0.0.0.0.1,
-      ne_eqb nr 21 r.0.0.0.1,
-      ne_eqb nr 22 r.0.0.1,
-      ne_eqb nr 23 r.0.1,
-      ne_eqb nr 30 r.1,
+      ne_eqb nr 11 (λ e. absurd (omega arith)),
+      ne_eqb nr 12 (λ e. absurd (omega arith)),
+      ne_eqb nr 13 (λ e. absurd (omega arith)),
+      ne_eqb nr 14 (λ e. absurd (omega arith)),
+      ne_eqb nr 15 (λ e. absurd (omega arith)),
+      ne_eqb nr 16 (λ e. absurd (omega arith)),
+      ne_eqb nr 17 (λ e. absurd (omega arith)),
+      ne_eqb nr 18 (λ e. absurd (omega arith)),
+      ne_eqb nr 21 (λ e. absurd (omega arith)),
+      ne_eqb nr 22 (λ e. absurd (omega arith)),
+      ne_eqb nr 23 (λ e. absurd (omega arith)),
+      ne_eqb nr 30 (λ e. absurd (omega arith)),
     )

@@ -83,8 +83,8 @@ loop-d-preserved c =
     let m = c.loop-d.invariant.1 in (
       omega arith,
       record {
-        near = elim c.if-work-d.branch [ then-work-d w ↦ w.EQUATION0-is ∙ alike_yes _ _ _ _ _ c.loop-d.d _ p.0 p.3 h e c.loop-d.alike w.if-work-d.true m.near | else-work-d w ↦ w.EQUATION0-is ∙ alike_no _ _ _ _ _ c.loop-d.d _ p.0 p.3 h e c.loop-d.alike w.if-work-d.false m.near ];
-        still = elim c.if-x-d.branch [ then-x-d w ↦ w.EQUATION0-is ∙ free_yes _ _ _ c.args.work.now _ c.loop-d.d _ p.0 p.3 h e c.loop-d.free w.if-x-d.true m.still | else-x-d w ↦ w.EQUATION0-is ∙ free_no _ _ _ c.args.work.now _ c.loop-d.d _ p.0 p.3 h e c.loop-d.free w.if-x-d.false m.still ];
+        near = elim c.if-work-d.branch [ then-work-d w ↦ w.alike-is ∙ alike_yes _ _ _ _ _ c.loop-d.d _ p.0 p.3 h e c.loop-d.alike w.if-work-d.true m.near | else-work-d w ↦ w.alike-is ∙ alike_no _ _ _ _ _ c.loop-d.d _ p.0 p.3 h e c.loop-d.alike w.if-work-d.false m.near ];
+        still = elim c.if-x-d.branch [ then-x-d w ↦ w.free-is ∙ free_yes _ _ _ c.args.work.now _ c.loop-d.d _ p.0 p.3 h e c.loop-d.free w.if-x-d.true m.still | else-x-d w ↦ w.free-is ∙ free_no _ _ _ c.args.work.now _ c.loop-d.d _ p.0 p.3 h e c.loop-d.free w.if-x-d.false m.still ];
       },
     )
 

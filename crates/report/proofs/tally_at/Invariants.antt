@@ -4,7 +4,7 @@ use Rattle.report.specs.Tests.{Counted}
 use Rattle.report.proofs.tally_at.Given as goal
 
 abbrev pub invariant-loop-d : goal.invariant-loop-d
-invariant-loop-d l = (l.d ≤ l.darts) × Counted l.dim l.darts l.tables l.work (l.rank * l.darts + l.d) (record { l.alike = l.alike; l.free = l.free })
+invariant-loop-d l = (l.d ≤ l.darts) × Counted l.dim l.darts l.tables l.work (l.rank * l.darts + l.d) (record { alike = l.alike; free = l.free })
 
 abbrev pub decreases-loop-d : goal.decreases-loop-d
 decreases-loop-d l = l.darts - l.d
