@@ -2,9 +2,8 @@
 # it and run.
 #
 # The library is proved and built where it is not there or a crate that it is made of has changed (prove.sh); if
-# KANZHULET_LIB names a folder, the libkanzhulet.a in it is taken instead. It is for x86-64. There the system's C
-# compiler is used, or the kit's if there is none, and the programs run as they are. On another processor the kit's
-# compiler builds them for x86-64 and the kit's emulator runs them.
+# KANZHULET_LIB names a folder, the libkanzhulet.a in it is taken instead. The system's C compiler is used, or the kit's
+# with the kit's C library if there is none. All is for x86-64, where alone the toolchain runs.
 
 root=$(cd "$(dirname "${BASH_SOURCE[0]}")/.." && pwd -P)
 build=$root/target/surface
@@ -24,7 +23,7 @@ find_library() {
 }
 
 find_compiler() {
-  if [ "$machine" = x86_64 ] && command -v cc >/dev/null; then
+  if command -v cc >/dev/null; then
     by=system
   else
     by=kit
@@ -71,29 +70,24 @@ link() {
   for name in "$@"; do
     objects+=("$build/$name.o")
   done
-  link_with "$build/$1" "${objects[@]}" ${link_options[@]+"${link_options[@]}"} "$library"
+  link_with "$build/$1" "${objects[@]}" "$library"
 }
-link_options=()
 
 # run NAME WORD...: the program target/surface/NAME.
 run() { run_at "$build/$1" "${@:2}"; }
 
 # run_at PROGRAM WORD...
 run_at() {
-  local emulator=()
   if [ "$by" = system ]; then
     "$@"
-    return
+  else
+    "$kit/lib/ld-linux-x86-64.so.2" --library-path "$kit/lib" "$@"
   fi
-  [ "$machine" = x86_64 ] || emulator=("$kit/bin/qemu-x86_64")
-  ${emulator[@]+"${emulator[@]}"} "$kit/lib/ld-linux-x86-64.so.2" --library-path "$kit/lib" "$@"
 }
 
 # build_bench: the benchmark with the reference, which is built as the archive is: -O3, a section for each function.
 build_bench() {
   object reference -O3 -ffunction-sections
   object bench -O3 -Wno-unused-function
-  [ "$machine" = x86_64 ] || link_options=(-T "$root/surface/apart.ld")
   link bench reference
-  link_options=()
 }

@@ -37,7 +37,7 @@ take_input() {
 }
 
 # list WORD...: prints what the listing program, called by these words, makes of standard input. The status is 1 if that
-# is a refusal: a Rattle program has no exit status of its own.
+# is a refusal; the program itself ends with status 0 there too.
 list() {
   local text
   [ ! -t 0 ] || say "reading a stream from the terminal, up to its end (Ctrl-D)"

@@ -2,16 +2,18 @@
 # and built where something that they are made of has changed. The reader says how it speaks (`say`), how it gives up
 # (`stop`) and where the repository is (`root`).
 
-machine=$(uname -m)
-
-# The kit's compiler, linker, archiver, emulator and C library, found beside the rt command.
-find_kit() {
-  local rt
-  rt=$(command -v rt) ||
+# The toolchain's command, and what runs it: its programs are for x86-64, as is all that it builds.
+find_rt() {
+  command -v rt >/dev/null ||
     stop 'the command rt of the Rattle toolchain is not on the path: see README.md, "What it needs"'
-  rt=$(readlink -f "$rt")
-  kit=$(cd "$(dirname "$rt")/.." && pwd -P)/on/$machine/toolchain
-  [ -x "$kit/bin/clang" ] || stop "the Rattle toolchain on the path has no compiler for this machine, $machine"
+  [ "$(uname -m)" = x86_64 ] || stop "the Rattle toolchain runs on x86-64 alone, and this machine is $(uname -m)"
+}
+
+# The kit's compiler, linker, archiver and C library: `kit`, found beside the page that `rt doc` names.
+find_kit() {
+  find_rt
+  kit=$(dirname "$(rt doc)")/toolchain
+  [ -x "$kit/bin/clang" ] || stop "the Rattle toolchain on the path has no compiler: there is no $kit/bin/clang"
 }
 
 # needs CRATE [CHANGED]: the crates that a crate is proved from, itself last, each after those that it uses. With a list
@@ -30,17 +32,18 @@ needs() {
     END { visit(wanted) }' "$root/crates.txt"
 }
 
-# changed CRATE PROOF: is there no such file, which is written when the crate is proved, or is something in the crate's
-# folder younger? The edits that must fail are no part of the crate.
+# changed CRATE PRODUCT: is there no such file, or is something that the crate is proved and built from younger? The
+# edits that must fail are no part of the crate, and its out/ is the toolchain's.
 changed() {
-  [ ! -f "$2" ] || [ -n "$(find "$root/crates/$1" -name must-fail -prune -o -newer "$2" -print -quit)" ]
+  local part parts=()
+  for part in src specs proofs; do
+    [ ! -d "$root/crates/$1/$part" ] || parts+=("$root/crates/$1/$part")
+  done
+  [ ! -f "$2" ] || [ ${#parts[@]} -eq 0 ] || [ -n "$(find "${parts[@]}" -newer "$2" -print -quit)" ]
 }
 
-# proved_in LOG: of how many crates a log says that they are proved. An archive's own crate is proved with it.
-proved_in() { grep -c -e '^rt: [A-Za-z0-9_]* proved (' -e '^rt: target/staticlib/' "$1" || true; }
-
-# about SECONDS, in words.
-about() { if [ "$1" -lt 90 ]; then echo "$1 seconds"; else echo "$((($1 + 30) / 60)) minutes"; fi; }
+# proved_in LOG: of how many crates a log says that they are proved. Of those whose proof stands still it says nothing.
+proved_in() { grep -c '^logic=proved ' "$1" || true; }
 
 # count_along LOG ALL: on a terminal, one line that says every second how far the proofs are, until it is killed.
 count_along() {
@@ -51,28 +54,16 @@ count_along() {
   done
 }
 
-# look_over PRODUCT COMMAND CRATE: sets `all`, the crates that a product is made of; `touched`, those of them that are
-# not proved or have changed; and `late`, not empty if one of the others was proved after the product was made.
-look_over() {
-  local name proof
-  all=() touched='' late=''
-  mapfile -t all < <(needs "$3")
-  for name in "${all[@]}"; do
-    proof=$root/target/stamp/$name
-    if [ "$name $2" = "$3 staticlib" ]; then proof=$1; fi
-    if changed "$name" "$proof"; then touched+=" $name"; fi
-    if [ "$name" != "$3" ] && [ "$proof" -nt "$1" ]; then late=1; fi
-  done
-}
-
-# prove COMMAND CRATE LOG COUNT: `rt COMMAND CRATE`, with what it says in a log, and counting how many crates are done.
+# prove VERB CRATE LOG COUNT: `rt VERB` in a crate's folder, with what it says in a log, and counting how many crates are
+# done. `rt run` runs the program too, on the crate's own stdin.
 prove() {
-  local status=0 began=$SECONDS counter
+  local status=0 began=$SECONDS counter input=$root/crates/$2/stdin
+  [ -f "$input" ] || input=/dev/null
   : >"$3"
   count_along "$3" "$4" &
   counter=$!
   trap 'kill $counter 2>/dev/null' EXIT
-  (cd "$root" && rt "$1" "$2") </dev/null >"$3" 2>&1 || status=$?
+  (cd "$root/crates/$2" && rt "$1") <"$input" >"$3" 2>&1 || status=$?
   kill "$counter" 2>/dev/null || true
   wait "$counter" 2>/dev/null || true
   trap - EXIT
@@ -81,43 +72,49 @@ prove() {
   return "$status"
 }
 
-# bring WHAT PRODUCT COMMAND CRATE: makes a product, a path below target/, by `rt COMMAND CRATE`, unless it is there and
-# as young as everything that it is made of. Says first how many crates are to be proved.
+# bring WHAT VERB CRATE FILE: makes crates/CRATE/out/FILE by `rt VERB`, unless it is there and as young as all that it is
+# made of; `product` is its path. The toolchain proves again what has changed, and first whatever is not proved here yet:
+# after the gate in a new clone, say, which leaves the program but neither the library nor a check's work.
 bring() {
-  local what=$1 product=$root/target/$2 log=$root/target/$4.log start=$root/target/$4.start
-  local name all touched late stale
-  look_over "$product" "$3" "$4"
-  [ ! -f "$product" ] || [ -n "$touched$late" ] || return 0
-  find_kit
-  mapfile -t stale < <(needs "$4" "$touched")
-  if [ ${#stale[@]} -eq 0 ]; then
-    say "building $what from ${#all[@]} proved crates" >&2
-  else
-    say "building $what: ${#stale[@]} of ${#all[@]} crates to prove, about $(about $((12 * ${#stale[@]})))" >&2
-  fi
+  local what=$1 verb=$2 crate=$3 log=$root/target/$3.log start=$root/target/$3.start
+  local name all touched='' stale
+  product=$root/crates/$crate/out/$4
+  mapfile -t all < <(needs "$crate")
+  for name in "${all[@]}"; do
+    if changed "$name" "$product"; then touched+=" $name"; fi
+  done
+  if [ "$root/crates.txt" -nt "$product" ]; then touched=" ${all[*]}"; fi
+  [ -n "$touched" ] || return 0
+  find_rt
+  mapfile -t stale < <(needs "$crate" "$touched")
+  say "building $what: ${#stale[@]} of ${#all[@]} crates to prove" >&2
   mkdir -p "$root/target"
   : >"$start"
-  prove "$3" "$4" "$log" "${#all[@]}" || stop "$what could not be proved and built: see ${log#"$root"/}"
-  # What was touched and is the same has its proof still; what changes while it is proved is younger than the start.
-  for name in $touched; do touch -c -r "$start" "$root/target/stamp/$name"; done
-  [ ! "$start" -nt "$product" ] || touch -r "$start" "$product"
+  prove "$verb" "$crate" "$log" "${#all[@]}" || stop "$what could not be proved and built: see ${log#"$root"/}"
+  [ -f "$product" ] || stop "rt $verb made no ${product#"$root"/}: see ${log#"$root"/}"
+  # What changes while it is built is younger than the start.
+  touch -r "$start" "$product"
 }
 
-bring_program() { bring "the listing program" bin/list check list; }
+# The listing program: `program` is its path.
+bring_program() {
+  local product
+  bring "the listing program" run list list
+  program=$product
+}
 
-# The library is the proved archive and, in plain C, the texts of surface/messages.c.
+# The library, the proved archive and, in plain C, the texts of surface/messages.c: `library` is its path.
 bring_library() {
-  local proved=$root/target/staticlib/libexchange.a folder=$root/target/library
-  local texts=$root/surface/messages.c header=$root/include/kanzhulet.h
-  bring "the library" staticlib/libexchange.a staticlib exchange
+  local product folder=$root/target/library texts=$root/surface/messages.c header=$root/include/kanzhulet.h
+  bring "the library" lib exchange libexchange.a
   library=$folder/libkanzhulet.a
-  [ ! -f "$library" ] || [ -n "$(find "$proved" "$texts" "$header" -newer "$library" -print -quit)" ] || return 0
+  [ ! -f "$library" ] || [ -n "$(find "$product" "$texts" "$header" -newer "$library" -print -quit)" ] || return 0
   find_kit
   mkdir -p "$folder"
   rm -f "$library"
   "$kit/bin/clang" --target=x86_64-unknown-linux-gnu -std=c11 -Wall -Wextra -Wpedantic -Werror -O2 -fPIC -nostdinc \
     -isystem "$root/surface/headers" -I"$root/include" -c "$texts" -o "$folder/messages.o"
-  cp "$proved" "$folder/new.a"
+  cp "$product" "$folder/new.a"
   "$kit/bin/llvm-ar" rs "$folder/new.a" "$folder/messages.o"
   mv "$folder/new.a" "$library"
 }

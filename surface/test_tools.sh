@@ -167,37 +167,46 @@ test_off() {
   say "off.c makes of OFF text the stream that it is to make"
 }
 
-# When ./run proves and builds, and what it says then, in a copy of the repository with a stand-in for rt: it takes
-# every crate for proved, and the program for built, unless there is a file `fault`.
+# When ./run proves and builds, and what it says then, in a copy of the repository with a stand-in for rt: it takes two
+# crates for proved, and the program for built, unless there is a file `fault`; with a file `meanwhile` a crate changes
+# while it works. The copy lies outside the repository, where the gate takes no .rt or .antt for its own.
 test_run() {
-  local copy=$build/copy tool
-  rm -rf "$copy"
-  mkdir -p "$copy/kit/bin" "$copy/tools"
-  cp -r "$root/crates" "$root/crates.txt" "$root/run" "$root/surface" "$copy"
-  find_kit
-  ln -s "${kit%/on/*}/on" "$copy/kit/on"
-  cat >"$copy/kit/bin/rt" <<END
+  local copy tool crate part
+  copy=$(mktemp -d)
+  trap 'rm -rf "$copy"' EXIT
+  mkdir -p "$copy/kit" "$copy/tools" "$copy/crates"
+  cp -r "$root/crates.txt" "$root/run" "$root/surface" "$copy"
+  for crate in "$root"/crates/*/; do
+    crate=${crate%/}
+    mkdir "$copy/crates/${crate##*/}"
+    for part in src specs proofs must-fail stdin; do
+      [ ! -e "$crate/$part" ] || cp -r "$crate/$part" "$copy/crates/${crate##*/}"
+    done
+  done
+  cat >"$copy/kit/rt" <<END
 #!/bin/sh
-echo "\$*" >>calls
-[ ! -f fault ] || { echo 'rt: rules NOT PROVED (exit 1, 0 s)'; exit 1; }
-mkdir -p target/stamp target/bin
-for crate in rules tables; do echo "rt: \$crate proved (0 s)"; done
-for crate in crates/*; do : >target/stamp/\${crate##*/}; done
-cp '$root/target/bin/list' target/bin/list
+echo "\$* in \${PWD##*/}" >>'$copy/calls'
+[ ! -f '$copy/fault' ] || { echo 'logic=not-proved'; exit 1; }
+for crate in rules tables; do echo 'logic=proved functions=1'; done
+[ ! -f '$copy/meanwhile' ] || touch ../words/src/lib.rt
+mkdir -p out
+cp '$program' out/list
 END
-  chmod +x "$copy/kit/bin/rt"
+  chmod +x "$copy/kit/rt"
   for tool in bash awk cat dirname find grep mkdir readlink sleep touch uname; do
     ln -s "$(command -v "$tool")" "$copy/tools/$tool"
   done
   printf '\x10\x00\xA0' >"$copy/lone"
   (cd "$copy" && proves_when_needed </dev/null)
+  rm -rf "$copy"
+  trap - EXIT
   say "./run proves and builds what has changed, and nothing else"
 }
 
 # made TIMES: the stand-in was called so often since it was last asked.
 made() {
   local calls=0
-  [ ! -f calls ] || calls=$(grep -c '' calls)
+  [ ! -f calls ] || calls=$(grep -c '^run in list$' calls)
   rm -f calls
   [ "$calls" -eq "$1" ] || stop "rt was called $calls times and not $1"
 }
@@ -207,15 +216,15 @@ proves_when_needed() {
   PATH=$PWD/tools ends 2 ./run lone
   said err 'the command rt of the Rattle toolchain is not on the path: see README.md, "What it needs"'
   grep -q '^## What it needs$' "$root/README.md" || stop "README.md does not say what it needs"
-  PATH=$PWD/kit/bin:$rest
+  PATH=$PWD/kit:$rest
   ends 0 ./run --help
   made 0
   : >fault
   ends 2 ./run lone
-  said err '^run: building the listing program: 16 of 16 crates to prove, about 3 minutes$'
+  said err '^run: building the listing program: 16 of 16 crates to prove$'
   said err 'could not be proved and built: see target/list.log$'
   said_no out
-  grep -q 'NOT PROVED' target/list.log || stop "the log has not what rt said"
+  grep -q 'not-proved' target/list.log || stop "the log has not what rt said"
   made 1
   rm fault
   ends 0 ./run lone
@@ -228,15 +237,30 @@ proves_when_needed() {
   made 0
   touch crates/listing/src/lib.rt
   ends 0 ./run lone
-  said err '^run: building the listing program: 2 of 16 crates to prove, about 24 seconds$'
+  said err '^run: building the listing program: 2 of 16 crates to prove$'
   made 1
   ends 0 ./run lone
   made 0
-  touch target/stamp/tables # as if it had been proved by itself since
+  mkdir crates/tables/out # as a check leaves its work
+  : >crates/tables/out/kept
   ends 0 ./run lone
-  said err '^run: building the listing program from 16 proved crates$'
+  said_no err
+  made 0
+  touch crates.txt
+  ends 0 ./run lone
+  said err '^run: building the listing program: 16 of 16 crates to prove$'
+  made 1
+  : >meanwhile
+  rm crates/counts/proofs/Lib.antt # what is gone is a change too
+  ends 0 ./run lone
+  said err '^run: building the listing program: 3 of 16 crates to prove$'
+  made 1
+  rm meanwhile
+  ends 0 ./run lone # words has changed while the last was built
+  said err '^run: building the listing program: 3 of 16 crates to prove$'
   made 1
   ends 0 ./run lone
+  said_no err
   made 0
 }
 
@@ -272,20 +296,20 @@ test_version() {
     stop "docs/CHANGES.md begins with another version"
 }
 
-# The installed listing program. On another processor than x86-64 it takes an emulator from the path.
+# The installed listing program. On another processor than x86-64, which a stand-in for uname makes of this one, it
+# takes an emulator from the path.
 test_installed_listing() {
   local list=$prefix/bin/kanzhulet-list PATH=$PATH
-  if [ "$machine" != x86_64 ]; then
-    mkdir -p "$room/system/lib"
-    ln -s "$kit/lib" "$room/system/lib64"
-    ln -s "$kit/lib" "$room/system/lib/x86_64-linux-gnu"
-    export QEMU_LD_PREFIX=$room/system
-    PATH=$kit/bin:$PATH
-  fi
   lists 0 "$(run longest text)" "$list" "$build/longest.stream"
   printf '\x10\x01' | lists 1 'refused 11 at 0' "$list"
   refuses_words "$list" </dev/null
-  unset QEMU_LD_PREFIX
+  mkdir "$room/other"
+  printf '#!/bin/sh\necho aarch64\n' >"$room/other/uname"
+  printf '#!/bin/sh\n: >"%s"\nexec "$@"\n' "$room/other/emulated" >"$room/other/qemu-x86_64"
+  chmod +x "$room/other/uname" "$room/other/qemu-x86_64"
+  PATH=$room/other:$PATH
+  printf '\x10\x01' | lists 1 'refused 11 at 0' "$list"
+  [ -f "$room/other/emulated" ] || stop "kanzhulet-list takes no emulator from the path"
 }
 
 test_install() {
