@@ -6,7 +6,7 @@ use native.Mathlib.Omega.{arith}
 use lib.ListN.{length, get_or, length-append}
 use lib.Dec.{leb}
 use borrow.Author.Tests.{ne_eqb, lt-leb}
-use Rattle.shapes.specs.Text.{line_end, good, next, number, several, face}
+use Rattle.shapes.specs.Text.{line_end, good, number, several, face}
 use Rattle.text.specs.Leaves.{known_of}
 use Rattle.text.proofs.Readings.{next_good, several_split, several_length}
 use Rattle.shapes.specs.Faces.{Corner, corners_to, corners, all_corners}

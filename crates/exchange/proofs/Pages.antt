@@ -1,7 +1,7 @@
 -- Demand 3, the writer's half, of the surface: what calls that meet the contract of `kz_write`, or of `kz_write_bodies`, have written, page
 -- after page. Rests on the writer's Demands.
 use Prim.Native.Nat.{ℕ, ◌+◌}
-use mathlib.Core.Path.{◌≡◌, refl, ap, sym}
+use mathlib.Core.Path.{◌≡◌, refl, ap}
 use mathlib.Core.List.{List, [], ◌++◌}
 use lib.ListN.{length, get_or, take}
 use Rattle.rules.specs.declared.Form.{Form}

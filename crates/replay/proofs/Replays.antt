@@ -12,7 +12,7 @@ use Rattle.rules.specs.declared.Form.{Form}
 use Rattle.rules.specs.declared.WalkNo.{WalkNo}
 use Rattle.rules.specs.declared.Symbol.TheVariants.{New, Border, Index}
 use Rattle.rules.specs.Map.{by_dart, link, Valid}
-use Rattle.rules.specs.Walk.{Walk, Symbol, named}
+use Rattle.rules.specs.Walk.{Walk, Symbol}
 use Rattle.rules.specs.Walk.{Walked, prepend, symbols_of}
 use Rattle.rules.specs.Inner.{Emptied, Lowest, body_due}
 use Rattle.walk.specs.Numbers.{number_in, dart_in, positions_after}

@@ -1,6 +1,6 @@
 -- Laws of `exchanged`: the positions of two layouts go to each other one-to-one, what is past the (N+1)·n entries stays, the exchange and its way back are
 -- inverse, the links stay, and storing a link and blanking go along. Rests on Lists and Places.
-use Prim.Native.Nat.{ℕ, ◌-◌, ◌≤◌, ◌<◌}
+use Prim.Native.Nat.{ℕ, ◌≤◌, ◌<◌}
 use mathlib.Core.Path.{◌≡◌, ap, sym, ◌∙◌}
 use mathlib.Core.Logic.{◌≢◌}
 use mathlib.Core.List.{List}

@@ -8,7 +8,7 @@ use native.Mathlib.Decide.{ℕ_discrete, dec_lt}
 use lib.ListN.{get_or, set}
 use lib.Seq.{get_or-set_other}
 use Rattle.rules.specs.Walk.{Walk, Head, head}
-use Rattle.rules.specs.Inner.{gone, bound, Shape, Emptied, Lowest}
+use Rattle.rules.specs.Inner.{gone, Shape, Emptied}
 use Rattle.rules.proofs.Positions.{Turn, bound_le_count, turn, over}
 
 -- no queue is below L0

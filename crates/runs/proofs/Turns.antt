@@ -32,7 +32,7 @@ use Rattle.steps.specs.Partners.{partner_for, told_partner}
 use Rattle.steps.specs.Steps.{stand_in, stand, HeadCase, deduced_step, symbol_step, told_step, Lower, Steps}
 use Rattle.steps.proofs.Partners.{partner_looking}
 use Rattle.steps.proofs.Steps.{walk_start, partner_stand, stand_limits, stand_seven, serves, known_step_lem}
-use Rattle.runs.specs.declared.Turned.TheVariants.{On, Waits, Refused}
+use Rattle.runs.specs.declared.Turned.TheVariants.{On, Waits}
 use Rattle.runs.specs.Turns.{Ready, after_step, told_turn, Again, Turns}
 
 -- the start may be stepped

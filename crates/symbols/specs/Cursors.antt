@@ -1,5 +1,5 @@
 -- What a cursor stands for: the bits at hand, and what taking a symbol from them tells.
-use Rattle.std.specs.Prelude.{ℕ, ◌+◌, ◌-◌, ◌^◌, ◌≤◌, ◌<◌, ◌≡◌, Bool, true, List, ◌++◌, length, drop}
+use Rattle.std.specs.Prelude.{ℕ, ◌-◌, ◌^◌, ◌≤◌, ◌<◌, ◌≡◌, Bool, true, List, ◌++◌, length, drop}
 use Rattle.rules.specs.Stream.{bits_of, unpack}
 use Rattle.rules.specs.Stream as stream
 use Rattle.rules.specs.Session.{begins}

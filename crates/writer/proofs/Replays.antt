@@ -11,7 +11,7 @@ use Rattle.rules.specs.Map.{by_dart, Limits, Valid}
 use Rattle.rules.specs.declared.Symbol as rules
 use Rattle.rules.specs.declared.Symbol.TheVariants.{New, Border, Index}
 use Rattle.rules.specs.Symbols.{told_symbol}
-use Rattle.rules.specs.Walk.{Symbol, symbols_of}
+use Rattle.rules.specs.Walk.{symbols_of}
 use Rattle.rules.specs.Stream.{code, codes}
 use Rattle.rules.specs.Inner.{gone, bound, Emptied, Lowest, body_due}
 use Rattle.rules.proofs.Runs.{codes_append}

@@ -1,5 +1,4 @@
 -- `build::build` meets its contract: the links of the corners done so far stand. Assumes nothing.
-use Prim.Native.Nat.{◌-◌}
 use native.Mathlib.Omega.{arith}
 use Rattle.build.proofs.Entries.{building_start, building_next, building_end}
 use Rattle.build.proofs.build.Goals as goal
@@ -28,15 +27,14 @@ pub ends-requires : goal.ends-requires
 ends-requires c = omega (arith, c.requires.0.few)
 
 pub put-requires : goal.put-requires
-put-requires c =
-    (
-      omega (arith, c.loop-k.invariant.long),
-      omega (arith, c.requires.0.few),
-      c.before-b.ensures.1,
-      c.after-a.ensures.1,
-      c.ends.ensures.1,
-      c.ends.ensures.2,
-    )
+put-requires c = (
+  omega (arith, c.loop-k.invariant.long),
+  omega (arith, c.requires.0.few),
+  c.before-b.ensures.1,
+  c.after-a.ensures.1,
+  c.ends.ensures.1,
+  c.ends.ensures.2,
+)
 
 pub next_first-first-requires : goal.next_first-first-requires
 next_first-first-requires c = omega (arith, c.requires.0.few)

@@ -20,8 +20,13 @@ returns-then-next-ne0 c = check_tables _ _ _ _ _ _ _ c.misfit-first.ensures c.if
 pub number_all-bodies-requires : goal.number_all-bodies-requires
 number_all-bodies-requires c =
     let (l, w, r) = (let h2 : let a_2 = c.args in
-    Limits a_2.dim a_2.darts a_2.tables.now × (2 * a_2.darts ≤ length a_2.work.now) × (a_2.root < a_2.darts) = let a_2 = c.args in check_limits a_2.form _ _ _ _ a_2.work.now _ c.misfit-first.ensures c.if-first-ne0.false in h2) in (l, r, w, (let h3 : let a_3 = c.args in Valid by_dart a_3.dim a_3.darts a_3.tables.now = let a_3 = c.args in
-    check_valid a_3.form _ _ _ _ a_3.work.now _ c.misfit-first.ensures c.if-first-ne0.false _ c.misbuilt-next.ensures c.if-next-ne0.false in h3))
+    Limits a_2.dim a_2.darts a_2.tables.now × (2 * a_2.darts ≤ length a_2.work.now) × (a_2.root < a_2.darts) = let a_2 = c.args in check_limits a_2.form _ _ _ _ a_2.work.now _ c.misfit-first.ensures c.if-first-ne0.false in h2) in (
+      l,
+      r,
+      w,
+      (let h3 : let a_3 = c.args in Valid by_dart a_3.dim a_3.darts a_3.tables.now = let a_3 = c.args in
+          check_valid a_3.form _ _ _ _ a_3.work.now _ c.misfit-first.ensures c.if-first-ne0.false _ c.misbuilt-next.ensures c.if-next-ne0.false in h3),
+    )
 
 pub misjoined-last-requires : goal.misjoined-last-requires
 misjoined-last-requires c =
@@ -36,13 +41,19 @@ returns-then-last-eq0 c =
 
 pub overflow_mul-darts : goal.overflow_mul-darts
 overflow_mul-darts c =
-    omega (arith, (let h5 : let a_5 = c.args in
-    Limits a_5.dim a_5.darts a_5.tables.now × (2 * a_5.darts ≤ length a_5.work.now) × (a_5.root < a_5.darts) = let a_5 = c.args in check_limits a_5.form _ _ _ _ a_5.work.now _ c.misfit-first.ensures c.if-first-ne0.false in h5).0.darts.1)
+    omega (
+      arith,
+      (let h5 : let a_5 = c.args in
+          Limits a_5.dim a_5.darts a_5.tables.now × (2 * a_5.darts ≤ length a_5.work.now) × (a_5.root < a_5.darts) = let a_5 = c.args in check_limits a_5.form _ _ _ _ a_5.work.now _ c.misfit-first.ensures c.if-first-ne0.false in h5).0.darts.1,
+    )
 
 pub blank-requires : goal.blank-requires
 blank-requires c =
-    omega (arith, (let h6 : let a_6 = c.args in
-    Limits a_6.dim a_6.darts a_6.tables.now × (2 * a_6.darts ≤ length a_6.work.now) × (a_6.root < a_6.darts) = let a_6 = c.args in check_limits a_6.form _ _ _ _ a_6.work.now _ c.misfit-first.ensures c.if-first-ne0.false in h6).1)
+    omega (
+      arith,
+      (let h6 : let a_6 = c.args in
+          Limits a_6.dim a_6.darts a_6.tables.now × (2 * a_6.darts ≤ length a_6.work.now) × (a_6.root < a_6.darts) = let a_6 = c.args in check_limits a_6.form _ _ _ _ a_6.work.now _ c.misfit-first.ensures c.if-first-ne0.false in h6).1,
+    )
 
 pub returns : goal.returns
 returns c =

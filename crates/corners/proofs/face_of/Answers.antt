@@ -1,5 +1,4 @@
 -- `corners::face_of` meets its contract: so many faces have ended before corner k. Assumes nothing.
-use Prim.Native.Nat.{◌-◌}
 use native.Mathlib.Omega.{arith}
 use Rattle.corners.specs.Steps.{begun}
 use Rattle.corners.proofs.Steps.{ended_start, ended_next, ended_end}
@@ -22,8 +21,7 @@ pub loop-k-smaller : goal.loop-k-smaller
 loop-k-smaller c = omega arith
 
 pub loop-k-preserved : goal.loop-k-preserved
-loop-k-preserved c =
-    (
+loop-k-preserved c = (
   omega arith,
   ended_next _ c.loop-k.invariant.1 _ _ c.turn-s.ensures c.ended-face.ensures,
 )

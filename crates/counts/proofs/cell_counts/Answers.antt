@@ -1,6 +1,5 @@
 -- `counts::cell_counts` meets its contract: after i turns the counts of the ranks below i are there, and the others are 0;
 -- that of rank N comes last. Assumes nothing.
-use Prim.Native.Nat.{◌-◌}
 use mathlib.Core.Path.{◌≡◌, refl, ◌∙◌}
 use native.Mathlib.Omega.{arith}
 use Rattle.counts.proofs.Counts.{tallied_start, tallied_next, tallied_end}

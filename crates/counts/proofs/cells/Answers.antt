@@ -1,6 +1,6 @@
 -- `counts::cells` meets its contract: each dart below d is marked, and the darts from which floods were started are those that lead
 -- their cells. Assumes nothing.
-use Prim.Native.Nat.{◌-◌, ◌<◌}
+use Prim.Native.Nat.{◌<◌}
 use mathlib.Core.Path.{refl, ◌∙◌}
 use native.Mathlib.Omega.{arith}
 use Rattle.flood.proofs.Queues.{past_blanked}
@@ -48,9 +48,12 @@ loop-tail-preserved c =
     let v = c.requires.1 in
     let skip = c.args.skip in
     let hd = (let h3 : c.loop-tail.d < c.args.darts = swept_more c.loop-tail.invariant.2 c.loop-tail-test.true in h3) in
-    elim c.if-work-d.branch [ then-work-d w ↦ let F = flooded_but skip c.all_but-ranks.ensures w.flood-tail.ensures in
-    let kept = (flooded_on R.queue (omega (arith, hd)) (omega arith) F).past ∙ past in
-    rw (w.work-is, w.found-is, w.tail-is) (w.flood-tail.auto.work ∙ same, omega (arith, hd), swept_new v R hd w.if-work-d.true F, kept) | else-work-d w ↦ rw (w.work-is, w.found-is, w.tail-is) (same, omega (arith, hd), swept_old v R hd w.if-work-d.false, past) ]
+    elim c.if-work-d.branch [
+      | then-work-d w ↦ let F = flooded_but skip c.all_but-ranks.ensures w.flood-tail.ensures in
+          let kept = (flooded_on R.queue (omega (arith, hd)) (omega arith) F).past ∙ past in
+          rw (w.work-is, w.found-is, w.tail-is) (w.flood-tail.auto.work ∙ same, omega (arith, hd), swept_new v R hd w.if-work-d.true F, kept)
+      | else-work-d w ↦ rw (w.work-is, w.found-is, w.tail-is) (same, omega (arith, hd), swept_old v R hd w.if-work-d.false, past)
+    ]
 
 pub returns : goal.returns
 returns c =

@@ -8,16 +8,15 @@ use Rattle.faces.proofs.posted.Goals as goal
 
 pub load-l-requires : goal.load-l-requires
 unfolding begun
-load-l-requires c =
-    (
-      rw c.begin-from.ensures (planned_fresh c.requires.0),
-      c.requires.1,
-      refl,
-      length-replicate {A = ℕ} 2048 0,
-      length-replicate {A = ℕ} 2048 65535,
-      length-replicate {A = ℕ} 2048 0,
-      length-replicate {A = ℕ} 2048 0,
-    )
+load-l-requires c = (
+  rw c.begin-from.ensures (planned_fresh c.requires.0),
+  c.requires.1,
+  refl,
+  length-replicate {A = ℕ} 2048 0,
+  length-replicate {A = ℕ} 2048 65535,
+  length-replicate {A = ℕ} 2048 0,
+  length-replicate {A = ℕ} 2048 0,
+)
 
 pub face_of-requires : goal.face_of-requires
 face_of-requires c = planned_fresh c.requires.0
@@ -28,13 +27,12 @@ returns-then-l-p c =
     c.face_of.ensures c.refused.ensures).is _ _
 
 pub settled-requires : goal.settled-requires
-settled-requires c =
-    (
-      c.requires.1,
-      λ z.
-          post_lefts c.requires.0 (past_first _ _ _ (rw c.begin-from.ensures at c.load-l.ensures.0) c.if-l-p.false) z c.requires.1
-          (loaded_kept _ _ _ _ _ _ _ (rw c.begin-from.ensures at c.load-l.ensures) c.if-l-p.false),
-    )
+settled-requires c = (
+  c.requires.1,
+  λ z.
+      post_lefts c.requires.0 (past_first _ _ _ (rw c.begin-from.ensures at c.load-l.ensures.0) c.if-l-p.false) z c.requires.1
+      (loaded_kept _ _ _ _ _ _ _ (rw c.begin-from.ensures at c.load-l.ensures) c.if-l-p.false),
+)
 
 pub returns : goal.returns
 returns c =

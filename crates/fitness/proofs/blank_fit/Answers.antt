@@ -1,5 +1,4 @@
 -- `fitness::blank_fit` meets its contract: `bad` counts the entries before k that fail. Assumes nothing.
-use Prim.Native.Nat.{◌-◌}
 use native.Mathlib.Omega.{arith}
 use Rattle.fitness.proofs.Laws.{tallied_start, tallied_pass, tallied_fail, tallied_end, blank_yes, blank_no}
 use Rattle.fitness.proofs.blank_fit.Goals as goal

@@ -1,5 +1,4 @@
 -- `fitness::known_fit` meets its contract: `bad` counts the entries before k that fail. Assumes nothing.
-use Prim.Native.Nat.{◌-◌}
 use native.Mathlib.Omega.{arith}
 use Rattle.fitness.proofs.Laws.{tallied_start, tallied_pass, tallied_fail, tallied_end, known_yes, known_no}
 use Rattle.fitness.proofs.known_fit.Goals as goal

@@ -1,5 +1,4 @@
 -- `fitness::lowest` meets its contract: the queues below the one that is looked at are empty. Assumes nothing.
-use Prim.Native.Nat.{◌-◌}
 use native.Mathlib.Omega.{arith}
 use Rattle.rules.proofs.Lowest.{emptied_none, emptied_next}
 use Rattle.fitness.proofs.lowest.Goals as goal

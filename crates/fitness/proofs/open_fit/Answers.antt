@@ -1,6 +1,4 @@
 -- `fitness::open_fit` meets its contract: `bad` counts the entries before k that fail. Assumes nothing.
-use Prim.Native.Nat.{◌-◌}
-use mathlib.Core.Logic.{⊎_elim}
 use native.Mathlib.Omega.{arith}
 use Rattle.fitness.proofs.Laws.{tallied_start, tallied_pass, tallied_fail, tallied_end, open_blank, open_known, open_no}
 use Rattle.fitness.proofs.open_fit.Goals as goal
@@ -30,9 +28,10 @@ loop-k-preserved c =
     let a = c.args in
     let l = c.loop-k in
     elim c.if-x.branch [
-      then-x+then-count-x w ↦ rw w.bad-is (tallied_fail l.invariant (omega arith) (open_no _ a.count l.k w.if-x.true w.if-count-x.true))
-    | then-x+else-count-x w ↦ rw w.bad-is (tallied_pass l.invariant (omega arith) (open_known _ a.count l.k w.if-count-x.false))
-    | else-x w ↦ rw w.bad-is (tallied_pass l.invariant (omega arith) (open_blank _ a.count l.k w.if-x.false)) ]
+      | then-x+then-count-x w ↦ rw w.bad-is (tallied_fail l.invariant (omega arith) (open_no _ a.count l.k w.if-x.true w.if-count-x.true))
+      | then-x+else-count-x w ↦ rw w.bad-is (tallied_pass l.invariant (omega arith) (open_known _ a.count l.k w.if-count-x.false))
+      | else-x w ↦ rw w.bad-is (tallied_pass l.invariant (omega arith) (open_blank _ a.count l.k w.if-x.false))
+    ]
 
 pub returns : goal.returns
 returns c = tallied_end c.loop-k.invariant (omega arith)

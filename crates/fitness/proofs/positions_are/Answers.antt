@@ -1,5 +1,4 @@
 -- `fitness::positions_are` meets its contract: every position before i is x. Assumes nothing.
-use Prim.Native.Nat.{◌-◌}
 use native.Mathlib.Omega.{arith}
 use Rattle.rules.proofs.Lists.{passed_start, passed_next, passed_end, fails_at}
 use Rattle.fitness.proofs.Laws.{is_yes, is_no}

@@ -1,5 +1,4 @@
 -- `fitness::positions_fall` meets its contract: every position before i is not above the one before it, and `above` is the one before i. Assumes nothing.
-use Prim.Native.Nat.{◌-◌}
 use mathlib.Core.Path.{refl}
 use native.Mathlib.Omega.{arith}
 use Rattle.rules.proofs.Lists.{passed_start, passed_next, passed_end, fails_at}

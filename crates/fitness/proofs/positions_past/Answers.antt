@@ -1,5 +1,4 @@
 -- `fitness::positions_past` meets its contract: every position past N and before i is 0. Assumes nothing.
-use Prim.Native.Nat.{◌-◌}
 use native.Mathlib.Omega.{arith}
 use Rattle.rules.proofs.Lists.{passed_next, passed_end, fails_at}
 use Rattle.fitness.proofs.Laws.{past_start, past_no, past_yes}

@@ -1,5 +1,4 @@
 -- `fitness::ranks_passed` meets its contract: every rank before this one has links where it has passed and rank N has not. Assumes nothing.
-use Prim.Native.Nat.{◌-◌}
 use mathlib.Core.Path.{sym, ◌∙◌}
 use native.Mathlib.Omega.{arith}
 use Rattle.rules.proofs.Lists.{passed_start, passed_next, passed_end, fails_at}

@@ -1,6 +1,5 @@
 -- `flood::flood_on` meets its contract: from the start's place up to the head each dart of the queue is spread from.
 -- A head below the queue's end is below n. Assumes nothing.
-use Prim.Native.Nat.{◌-◌}
 use mathlib.Core.Path.{◌∙◌, refl}
 use native.Mathlib.Omega.{arith}
 use Rattle.flood.proofs.Floods.{flooding_inside, flooding_next, flooding_over}

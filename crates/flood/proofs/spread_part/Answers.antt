@@ -1,5 +1,4 @@
 -- `flood::spread_part` meets its contract: after each turn the links of the ranks from the first one up to i are followed. Assumes nothing.
-use Prim.Native.Nat.{◌-◌}
 use mathlib.Core.Path.{refl, ◌∙◌}
 use native.Mathlib.Omega.{arith}
 use Rattle.flood.proofs.Sets.{between_yes, between_next, between_end}

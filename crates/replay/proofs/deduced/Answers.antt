@@ -1,6 +1,5 @@
 -- `replay::deduced` meets its contract: the search for a rank across which aj(d) is deduced has come to i. Where ai(d) is d nothing is known, as at d.
 -- Assumes nothing.
-use Prim.Native.Nat.{◌-◌}
 use native.Mathlib.Omega.{arith}
 use Rattle.rules.proofs.Lists.{sought_start, sought_next}
 use Rattle.replay.specs.Replays.{deducing_rank}

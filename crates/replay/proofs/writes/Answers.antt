@@ -20,12 +20,18 @@ returns-then-e-position c =
 
 pub deduced-requires : goal.deduced-requires
 deduced-requires c =
-    let p = c.requires in
-    (p.0, p.1, p.2, omega arith, rw (let h2 : let a_2 = c.args in
-    Looked a_2.dim a_2.darts a_2.tables.now a_2.work.now a_2.j a_2.position
-    c.dart_of-d.result c.partner_of-x.result c.number_of-e.result = record { dart = c.dart_of-d.ensures; partner = c.partner_of-x.ensures; number = c.number_of-e.ensures } in h2).dart p.4, writes_unknown (let h3 : let a_3 = c.args in
-    Looked a_3.dim a_3.darts a_3.tables.now a_3.work.now a_3.j a_3.position
-    c.dart_of-d.result c.partner_of-x.result c.number_of-e.result = record { dart = c.dart_of-d.ensures; partner = c.partner_of-x.ensures; number = c.number_of-e.ensures } in h3) p.5 c.if-e-position.false)
+    let p = c.requires in (
+      p.0,
+      p.1,
+      p.2,
+      omega arith,
+      rw (let h2 : let a_2 = c.args in
+          Looked a_2.dim a_2.darts a_2.tables.now a_2.work.now a_2.j a_2.position
+          c.dart_of-d.result c.partner_of-x.result c.number_of-e.result = record { dart = c.dart_of-d.ensures; partner = c.partner_of-x.ensures; number = c.number_of-e.ensures } in h2).dart p.4,
+      writes_unknown (let h3 : let a_3 = c.args in
+          Looked a_3.dim a_3.darts a_3.tables.now a_3.work.now a_3.j a_3.position
+          c.dart_of-d.result c.partner_of-x.result c.number_of-e.result = record { dart = c.dart_of-d.ensures; partner = c.partner_of-x.ensures; number = c.number_of-e.ensures } in h3) p.5 c.if-e-position.false,
+    )
 
 pub returns-then-deduced : goal.returns-then-deduced
 returns-then-deduced c =

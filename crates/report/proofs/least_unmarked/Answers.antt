@@ -1,5 +1,4 @@
 -- `report::least_unmarked` meets its contract: the search has come to d, and every dart before it has a mark. Assumes nothing.
-use Prim.Native.Nat.{◌-◌}
 use native.Mathlib.Omega.{arith}
 use Rattle.rules.proofs.Lists.{sought_next, sought_here, sought_end}
 use Rattle.checker.proofs.Verdicts.{numberless_yes, numberless_no}

@@ -29,16 +29,23 @@ span-first-requires c =
 
 pub misjoined-joined-requires : goal.misjoined-joined-requires
 misjoined-joined-requires c =
-    let S = c.span-first.ensures.0 in
-    ((let h2 : let a_2 = c.args in Tabled a_2.form a_2.dim a_2.darts a_2.tables.now a_2.work.now = let a_2 = c.args in
-    let e_2 = c.misfit-sizes.ensures in
-    report_tabled a_2.form a_2.dim a_2.darts a_2.tables.now a_2.work.now e_2 c.if-sizes-ne0.false c.misbuilt-built.ensures c.if-built-ne0.false in h2).limits.darts.1, S.within, S.begun, S.queue)
+    let S = c.span-first.ensures.0 in (
+      (let h2 : let a_2 = c.args in Tabled a_2.form a_2.dim a_2.darts a_2.tables.now a_2.work.now = let a_2 = c.args in
+          let e_2 = c.misfit-sizes.ensures in
+          report_tabled a_2.form a_2.dim a_2.darts a_2.tables.now a_2.work.now e_2 c.if-sizes-ne0.false c.misbuilt-built.ensures c.if-built-ne0.false in h2).limits.darts.1,
+      S.within,
+      S.begun,
+      S.queue,
+    )
 
 pub overflow_mul-darts : goal.overflow_mul-darts
 overflow_mul-darts c =
-    omega (arith, (let h3 : let a_3 = c.args in Tabled a_3.form a_3.dim a_3.darts a_3.tables.now a_3.work.now = let a_3 = c.args in
-    let e_3 = c.misfit-sizes.ensures in
-    report_tabled a_3.form a_3.dim a_3.darts a_3.tables.now a_3.work.now e_3 c.if-sizes-ne0.false c.misbuilt-built.ensures c.if-built-ne0.false in h3).limits.darts.1)
+    omega (
+      arith,
+      (let h3 : let a_3 = c.args in Tabled a_3.form a_3.dim a_3.darts a_3.tables.now a_3.work.now = let a_3 = c.args in
+          let e_3 = c.misfit-sizes.ensures in
+          report_tabled a_3.form a_3.dim a_3.darts a_3.tables.now a_3.work.now e_3 c.if-sizes-ne0.false c.misbuilt-built.ensures c.if-built-ne0.false in h3).limits.darts.1,
+    )
 
 pub blank-requires : goal.blank-requires
 blank-requires c = omega (arith, c.span-first.ensures.0.queue.room)

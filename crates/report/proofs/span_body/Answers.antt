@@ -1,6 +1,5 @@
 -- `report::span_body` meets its contract: after each turn the darts of the queue below the head have been crossed by aN; at the end that is
 -- the whole queue. Assumes nothing.
-use Prim.Native.Nat.{◌-◌}
 use mathlib.Core.Path.{refl, ◌∙◌}
 use native.Mathlib.Omega.{arith}
 use Rattle.flood.proofs.Orbits.{orbit_inside, flooded_but, flooded_on}

@@ -1,5 +1,4 @@
 -- `report::span_rest` meets its contract: each turn marks one body more, until every dart has a mark. Assumes nothing.
-use Prim.Native.Nat.{◌-◌}
 use mathlib.Core.Path.{refl, ◌∙◌}
 use native.Mathlib.Omega.{arith}
 use Rattle.report.proofs.span_rest.Goals as goal

@@ -1,5 +1,5 @@
 -- `report::tally_all` meets its contract: after each turn the links of the ranks below are counted. Assumes nothing.
-use Prim.Native.Nat.{◌+◌, ◌*◌, ◌-◌}
+use Prim.Native.Nat.{◌+◌, ◌*◌}
 use mathlib.Core.Path.{◌≡◌}
 use native.Mathlib.Omega.{arith}
 use Rattle.rules.specs.Map.{size}

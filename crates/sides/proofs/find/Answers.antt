@@ -1,5 +1,4 @@
 -- `sides::find` meets its contract: a search that has come to a place ends where the whole search does. Assumes nothing.
-use Prim.Native.Nat.{◌-◌}
 use native.Mathlib.Omega.{arith}
 use Rattle.sides.specs.Sides.{kid}
 use Rattle.sides.proofs.Paths.{seeking_start, seeking_free, seeking_low, seeking_found, seeking_less, seeking_next}

@@ -1,5 +1,4 @@
 -- `sides::go_on` meets its contract: i corners are met, none of them a third use of a side of the table. Assumes nothing.
-use Prim.Native.Nat.{◌-◌}
 use native.Mathlib.Omega.{arith}
 use Rattle.sides.proofs.Blocks.{meeting_start, meeting_end, meeting_next, meeting_hit}
 use Rattle.sides.proofs.go_on.Goals as goal

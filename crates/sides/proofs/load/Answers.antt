@@ -1,5 +1,4 @@
 -- `sides::load` meets its contract: i corners are in the table, none of them a third use. Assumes nothing.
-use Prim.Native.Nat.{◌-◌}
 use native.Mathlib.Omega.{arith}
 use Rattle.sides.proofs.Blocks.{loading_start, loading_grown, loading_end, loading_next, loading_hit}
 use Rattle.sides.proofs.load.Goals as goal

@@ -7,16 +7,15 @@ use Rattle.sides.proofs.Blocks.{block_short, block_full, block_ready, block_on}
 use Rattle.sides.proofs.of_block.Goals as goal
 
 pub load-l-requires : goal.load-l-requires
-load-l-requires c =
-    (
-      c.requires,
-      c.part-m.ensures.0,
-      refl,
-      length-replicate {A = ℕ} 2048 0,
-      length-replicate {A = ℕ} 2048 65535,
-      length-replicate {A = ℕ} 2048 0,
-      length-replicate {A = ℕ} 2048 0,
-    )
+load-l-requires c = (
+  c.requires,
+  c.part-m.ensures.0,
+  refl,
+  length-replicate {A = ℕ} 2048 0,
+  length-replicate {A = ℕ} 2048 65535,
+  length-replicate {A = ℕ} 2048 0,
+  length-replicate {A = ℕ} 2048 0,
+)
 
 pub returns-then-l-lt-BLOCK : goal.returns-then-l-lt-BLOCK
 returns-then-l-lt-BLOCK c = block_short _ _ _ _ _ c.part-m.ensures c.load-l.ensures.0 c.if-l-lt-BLOCK.true _

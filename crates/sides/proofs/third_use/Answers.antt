@@ -1,5 +1,4 @@
 -- `sides::third_use` meets its contract: the blocks up to done are swept. Assumes nothing.
-use Prim.Native.Nat.{◌-◌}
 use native.Mathlib.Omega.{arith}
 use Rattle.sides.proofs.Blocks.{sweeping_start, sweeping_end, sweeping_last, sweeping_next}
 use Rattle.sides.proofs.third_use.Goals as goal

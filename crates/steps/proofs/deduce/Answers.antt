@@ -1,5 +1,4 @@
 -- `steps::deduce` meets its contract: what is left of the search from rank i on is the whole search. Assumes nothing.
-use Prim.Native.Nat.{◌-◌}
 use native.Mathlib.Omega.{arith}
 use Rattle.steps.proofs.Partners.{deducing_start, deducing_end, deducing_here, deducing_next}
 use Rattle.steps.proofs.deduce.Goals as goal

@@ -1,5 +1,4 @@
 -- `stored::narrow` meets its contract: no number before k has more than 16 bits, so the answer hangs on those from k on. Assumes nothing.
-use Prim.Native.Nat.{◌-◌}
 use mathlib.Core.Path.{refl, sym, ◌∙◌}
 use native.Mathlib.Omega.{arith}
 use Rattle.stored.proofs.Laws.{wide_here, narrow_next, narrow_end}

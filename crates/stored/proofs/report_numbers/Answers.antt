@@ -1,6 +1,6 @@
 -- `stored::report_numbers` meets its contract: the numbers of the answer in their order. Assumes nothing.
-use mathlib.Core.Path.{◌≡◌, sym, ◌∙◌}
-use lib.ListN.{length, length-map}
+use mathlib.Core.Path.{◌≡◌}
+use lib.ListN.{length}
 use Rattle.stored.proofs.Laws.{reported_by}
 use Rattle.stored.proofs.report_numbers.Goals as goal
 

@@ -1,6 +1,6 @@
 -- `stored::stored_session` meets its contract: the numbers of the record in their order. Assumes nothing.
-use mathlib.Core.Path.{◌≡◌, sym, ◌∙◌}
-use lib.ListN.{length, length-map}
+use mathlib.Core.Path.{◌≡◌}
+use lib.ListN.{length}
 use Rattle.stored.proofs.Laws.{stored_by}
 use Rattle.stored.proofs.stored_session.Goals as goal
 

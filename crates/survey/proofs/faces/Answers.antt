@@ -1,6 +1,5 @@
 -- `survey::faces` meets its contract: k faces are read, and s is what they say. Assumes nothing.
 use native.Mathlib.Omega.{arith}
-use Prim.Native.Nat.{◌-◌}
 use Rattle.survey.proofs.Looks.{surveying_start, surveying_bad, surveying_next, surveying_end}
 use Rattle.survey.proofs.faces.Goals as goal
 

@@ -1,6 +1,5 @@
 -- `survey::others` meets its contract: own is the last corner read, number what the corners up to it say. Assumes nothing.
 use native.Mathlib.Omega.{arith}
-use Prim.Native.Nat.{◌-◌}
 use Rattle.text.proofs.Readings.{reading_bad, reading_good}
 use Rattle.survey.proofs.Looks.{looking_start, looking_bad, looking_next, looking_end}
 use Rattle.survey.proofs.others.Goals as goal

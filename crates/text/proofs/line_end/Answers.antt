@@ -1,6 +1,5 @@
 -- `text::line_end` meets its contract: no LF up to p. Assumes nothing.
 use native.Mathlib.Omega.{arith}
-use Prim.Native.Nat.{◌-◌}
 use borrow.Author.Tests.{eq-eqb, ne_eqb}
 use Rattle.shapes.specs.Text.{line_end}
 use Rattle.text.proofs.Laws.{gone_start, gone_next, gone_here, gone_end}

@@ -1,6 +1,5 @@
 -- `text::numeral` meets its contract: the digits up to p write v, and the word goes on there. Assumes nothing.
 use native.Mathlib.Omega.{arith}
-use Prim.Native.Nat.{◌-◌}
 use mathlib.Core.Path.{sym, ◌∙◌, ap}
 use Rattle.text.specs.Leaves.{reading_of}
 use Rattle.text.proofs.Laws.{no_stop, ending_here, ending_end}

@@ -1,6 +1,5 @@
 -- `text::passed` meets its contract. Assumes nothing.
 use native.Mathlib.Omega.{arith}
-use Prim.Native.Nat.{◌-◌}
 use Rattle.text.proofs.Laws.{fresh_inside}
 use Rattle.text.proofs.Readings.{word_none, word_some, word_inside, fresh_end, reads_start, reads_bad, reads_next, reads_end}
 use Rattle.text.proofs.passed.Goals as goal

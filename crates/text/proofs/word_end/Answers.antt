@@ -1,6 +1,5 @@
 -- `text::word_end` meets its contract: all up to p is of the word. Assumes nothing.
 use native.Mathlib.Omega.{arith}
-use Prim.Native.Nat.{◌-◌}
 use mathlib.Core.Path.{sym, ◌∙◌}
 use Rattle.text.proofs.Laws.{ending_start, ending_next, ending_here, ending_end}
 use Rattle.text.proofs.word_end.Goals as goal

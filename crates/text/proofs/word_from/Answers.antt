@@ -1,6 +1,6 @@
 -- `text::word_from` meets its contract: all up to p is of no word, and no comment goes on at p. Assumes nothing.
 use native.Mathlib.Omega.{arith}
-use Prim.Native.Nat.{◌+◌, ◌-◌}
+use Prim.Native.Nat.{◌+◌}
 use mathlib.Core.Path.{sym, ◌∙◌}
 use Rattle.text.proofs.Laws.{line_end_from, coming_start, coming_comment, coming_blank, coming_here, coming_end}
 use Rattle.text.proofs.word_from.Goals as goal

@@ -10,14 +10,35 @@ use Rattle.walk.proofs.number_all.Goals as goal
 
 pub number_body-count-requires : goal.number_body-count-requires
 number_body-count-requires c =
-    let a = c.args in
-    (c.requires.0, c.requires.3, search rules, search rules, record { form = a.form; root = a.root; lent = a.work.now; bodies = 1; going = (let h1 : let a_1 = c.args in
-    Going a_1.form a_1.dim a_1.darts a_1.tables.now a_1.root a_1.work.now 1 1 (0 ∷ 0 ∷ 0 ∷ 0 ∷ 0 ∷ 0 ∷ 0 ∷ []) c.give_number.new.work = going_starts c.args.form (let h2 : let a_2 = c.args in Rooted a_2.dim a_2.darts a_2.tables.now a_2.root = let p_2 = c.requires in rooted p_2.0 p_2.3 p_2.1 in h2) c.args.work.now _ _ c.blank.ensures c.give_number.ensures in h1) })
+    let a = c.args in (
+      c.requires.0,
+      c.requires.3,
+      search rules,
+      search rules,
+      record {
+        form = a.form;
+        root = a.root;
+        lent = a.work.now;
+        bodies = 1;
+        going = (let h1 : let a_1 = c.args in
+            Going a_1.form a_1.dim a_1.darts a_1.tables.now a_1.root a_1.work.now 1 1 (0 ∷ 0 ∷ 0 ∷ 0 ∷ 0 ∷ 0 ∷ 0 ∷ []) c.give_number.new.work = going_starts c.args.form (let h2 : let a_2 = c.args in Rooted a_2.dim a_2.darts a_2.tables.now a_2.root = let p_2 = c.requires in rooted p_2.0 p_2.3 p_2.1 in h2) c.args.work.now _ _ c.blank.ensures c.give_number.ensures in h1);
+      },
+    )
 
 pub number_rest-requires : goal.number_rest-requires
-number_rest-requires c =
-    (c.requires.0, c.requires.3, search rules, search rules, c.number_body-count.ensures.1, (_, _, is_several c.in-Several.is (let h3 : let a_3 = c.args in Going a_3.form a_3.dim a_3.darts a_3.tables.now a_3.root a_3.work.now 1 c.number_body-count.result c.number_body-count.new.positions c.number_body-count.new.work = c.number_body-count.ensures.0.going _ _ _ 1 (let h4 : let a_4 = c.args in
-    Going a_4.form a_4.dim a_4.darts a_4.tables.now a_4.root a_4.work.now 1 1 (0 ∷ 0 ∷ 0 ∷ 0 ∷ 0 ∷ 0 ∷ 0 ∷ []) c.give_number.new.work = going_starts c.args.form (let h5 : let a_5 = c.args in Rooted a_5.dim a_5.darts a_5.tables.now a_5.root = let p_5 = c.requires in rooted p_5.0 p_5.3 p_5.1 in h5) c.args.work.now _ _ c.blank.ensures c.give_number.ensures in h4) in h3)))
+number_rest-requires c = (
+  c.requires.0,
+  c.requires.3,
+  search rules,
+  search rules,
+  c.number_body-count.ensures.1,
+  (
+    _,
+    _,
+    is_several c.in-Several.is (let h3 : let a_3 = c.args in Going a_3.form a_3.dim a_3.darts a_3.tables.now a_3.root a_3.work.now 1 c.number_body-count.result c.number_body-count.new.positions c.number_body-count.new.work = c.number_body-count.ensures.0.going _ _ _ 1 (let h4 : let a_4 = c.args in
+        Going a_4.form a_4.dim a_4.darts a_4.tables.now a_4.root a_4.work.now 1 1 (0 ∷ 0 ∷ 0 ∷ 0 ∷ 0 ∷ 0 ∷ 0 ∷ []) c.give_number.new.work = going_starts c.args.form (let h5 : let a_5 = c.args in Rooted a_5.dim a_5.darts a_5.tables.now a_5.root = let p_5 = c.requires in rooted p_5.0 p_5.3 p_5.1 in h5) c.args.work.now _ _ c.blank.ensures c.give_number.ensures in h4) in h3),
+  ),
+)
 
 pub returns-in-One : goal.returns-in-One
 returns-in-One c =

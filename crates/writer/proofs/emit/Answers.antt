@@ -19,9 +19,14 @@ put_number-second-requires c =
     (put_fits c.put_few-first.ensures 12 (omega (arith, length_bits 4 c.first_bits.result)), omega arith, omega arith, omega arith)
 
 pub put_symbols-last-requires : goal.put_symbols-last-requires
-put_symbols-last-requires c =
-    (c.requires.0, c.requires.1, c.requires.2, put_fits (let h1 : let a_1 = c.args in
-    Put (header a_1.form a_1.dim a_1.darts) a_1.start blank_pen c.put_number-second.result a_1.out.now c.put_number-second.new.out = put_header _ _ _ c.first_bits.ensures c.put_few-first.ensures c.put_number-second.ensures in h1) 401422 (omega (arith, header_length c.args.form c.args.dim c.args.darts)), c.requires.3)
+put_symbols-last-requires c = (
+  c.requires.0,
+  c.requires.1,
+  c.requires.2,
+  put_fits (let h1 : let a_1 = c.args in
+      Put (header a_1.form a_1.dim a_1.darts) a_1.start blank_pen c.put_number-second.result a_1.out.now c.put_number-second.new.out = put_header _ _ _ c.first_bits.ensures c.put_few-first.ensures c.put_number-second.ensures in h1) 401422 (omega (arith, header_length c.args.form c.args.dim c.args.darts)),
+  c.requires.3,
+)
 
 pub fill-requires : goal.fill-requires
 fill-requires c =

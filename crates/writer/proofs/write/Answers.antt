@@ -24,8 +24,15 @@ emit-length-requires c =
 
 pub overflow_cast-result : goal.overflow_cast-result
 overflow_cast-result c =
-    omega (arith, (let h2 : c.emit-length.result ≤ 50178 = omega (arith, (let h3 : let a_3 = c.args in let s_3 = stream a_3.form by_dart a_3.dim a_3.darts a_3.tables.now a_3.root in
-    (c.emit-length.result ≡ length s_3) × (c.emit-length.new.out ≡ penned s_3 a_3.start a_3.out.now) = c.emit-length.ensures c.args.root (let h4 : let a_4 = c.args in NumberedFrom a_4.form a_4.dim a_4.darts a_4.tables.now a_4.root c.check-c.new.work = write_numbered _ _ _ _ _ c.args.work.now _ c.check-c.ensures.0 c.if-c-ne0.false _ c.check-c.ensures.1 in h4) in h3).0, write_longest _ _ _ _ _ c.args.work.now _ c.check-c.ensures.0 c.if-c-ne0.false) in h2))
+    omega (
+      arith,
+      (let h2 : c.emit-length.result ≤ 50178 = omega (
+        arith,
+        (let h3 : let a_3 = c.args in let s_3 = stream a_3.form by_dart a_3.dim a_3.darts a_3.tables.now a_3.root in
+            (c.emit-length.result ≡ length s_3) × (c.emit-length.new.out ≡ penned s_3 a_3.start a_3.out.now) = c.emit-length.ensures c.args.root (let h4 : let a_4 = c.args in NumberedFrom a_4.form a_4.dim a_4.darts a_4.tables.now a_4.root c.check-c.new.work = write_numbered _ _ _ _ _ c.args.work.now _ c.check-c.ensures.0 c.if-c-ne0.false _ c.check-c.ensures.1 in h4) in h3).0,
+        write_longest _ _ _ _ _ c.args.work.now _ c.check-c.ensures.0 c.if-c-ne0.false,
+      ) in h2),
+    )
 
 pub returns-then-length-start : goal.returns-then-length-start
 unfolding write_work
@@ -38,13 +45,27 @@ returns-then-length-start c =
 
 pub overflow_cast-result-2 : goal.overflow_cast-result-2
 overflow_cast-result-2 c =
-    omega (arith, (let h7 : c.emit-length.result ≤ 50178 = omega (arith, (let h8 : let a_8 = c.args in let s_8 = stream a_8.form by_dart a_8.dim a_8.darts a_8.tables.now a_8.root in
-    (c.emit-length.result ≡ length s_8) × (c.emit-length.new.out ≡ penned s_8 a_8.start a_8.out.now) = c.emit-length.ensures c.args.root (let h9 : let a_9 = c.args in NumberedFrom a_9.form a_9.dim a_9.darts a_9.tables.now a_9.root c.check-c.new.work = write_numbered _ _ _ _ _ c.args.work.now _ c.check-c.ensures.0 c.if-c-ne0.false _ c.check-c.ensures.1 in h9) in h8).0, write_longest _ _ _ _ _ c.args.work.now _ c.check-c.ensures.0 c.if-c-ne0.false) in h7))
+    omega (
+      arith,
+      (let h7 : c.emit-length.result ≤ 50178 = omega (
+        arith,
+        (let h8 : let a_8 = c.args in let s_8 = stream a_8.form by_dart a_8.dim a_8.darts a_8.tables.now a_8.root in
+            (c.emit-length.result ≡ length s_8) × (c.emit-length.new.out ≡ penned s_8 a_8.start a_8.out.now) = c.emit-length.ensures c.args.root (let h9 : let a_9 = c.args in NumberedFrom a_9.form a_9.dim a_9.darts a_9.tables.now a_9.root c.check-c.new.work = write_numbered _ _ _ _ _ c.args.work.now _ c.check-c.ensures.0 c.if-c-ne0.false _ c.check-c.ensures.1 in h9) in h8).0,
+        write_longest _ _ _ _ _ c.args.work.now _ c.check-c.ensures.0 c.if-c-ne0.false,
+      ) in h7),
+    )
 
 pub overflow_cast-result-3 : goal.overflow_cast-result-3
 overflow_cast-result-3 c =
-    omega (arith, (let h10 : c.emit-length.result ≤ 50178 = omega (arith, (let h11 : let a_11 = c.args in let s_11 = stream a_11.form by_dart a_11.dim a_11.darts a_11.tables.now a_11.root in
-    (c.emit-length.result ≡ length s_11) × (c.emit-length.new.out ≡ penned s_11 a_11.start a_11.out.now) = c.emit-length.ensures c.args.root (let h12 : let a_12 = c.args in NumberedFrom a_12.form a_12.dim a_12.darts a_12.tables.now a_12.root c.check-c.new.work = write_numbered _ _ _ _ _ c.args.work.now _ c.check-c.ensures.0 c.if-c-ne0.false _ c.check-c.ensures.1 in h12) in h11).0, write_longest _ _ _ _ _ c.args.work.now _ c.check-c.ensures.0 c.if-c-ne0.false) in h10))
+    omega (
+      arith,
+      (let h10 : c.emit-length.result ≤ 50178 = omega (
+        arith,
+        (let h11 : let a_11 = c.args in let s_11 = stream a_11.form by_dart a_11.dim a_11.darts a_11.tables.now a_11.root in
+            (c.emit-length.result ≡ length s_11) × (c.emit-length.new.out ≡ penned s_11 a_11.start a_11.out.now) = c.emit-length.ensures c.args.root (let h12 : let a_12 = c.args in NumberedFrom a_12.form a_12.dim a_12.darts a_12.tables.now a_12.root c.check-c.new.work = write_numbered _ _ _ _ _ c.args.work.now _ c.check-c.ensures.0 c.if-c-ne0.false _ c.check-c.ensures.1 in h12) in h11).0,
+        write_longest _ _ _ _ _ c.args.work.now _ c.check-c.ensures.0 c.if-c-ne0.false,
+      ) in h10),
+    )
 
 pub returns : goal.returns
 unfolding write_work
