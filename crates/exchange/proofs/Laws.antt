@@ -32,7 +32,8 @@ pub close_stored : (p : Paged) (t : List ℕ) {z : Left} → left_by p t ≡ z �
 unfolding stored left_by
 close_stored p t e ek ea = rw (ek, ea) (ap stored e)
 
-pub page_stored_lem : (p : Fetching) (t : List ℕ) {z : PageLeft} → fetched_by p t ≡ z → {k a : List ℕ} → k ≡ stored_session p.session → a ≡ page_numbers p.answer
+pub page_stored_lem : (p : Fetching) (t : List ℕ) {z : PageLeft} → fetched_by p t ≡ z → {k a : List ℕ} → k ≡ stored_session p.session
+    → a ≡ page_numbers p.answer
     → lent k a t ≡ page_stored z
 unfolding page_stored
 page_stored_lem p t e ek ea = rw (ek, ea) (ap page_stored e)

@@ -25,12 +25,14 @@ called_stored s v f unfit t = rw (stands_stored s v, session_back s v) refl
 -- the rooms for the bytes so far
 unfoldable pub rooms_for : List ℕ → List ℕ → Lent
 rooms_for bytes t = lent (stored_session (record_for by_dart bytes t))
-    (page_numbers (record { reading = answer_of (reading_of by_dart (unpack bytes) t); fetch = fetch_of (record_for by_dart bytes t) })) (tables_for by_dart bytes t)
+    (page_numbers (record { reading = answer_of (reading_of by_dart (unpack bytes) t); fetch = fetch_of (record_for by_dart bytes t) }))
+    (tables_for by_dart bytes t)
 
 page_rooms : (xs p t : List ℕ) → page_lent (stored_session (record_for by_dart xs t)) p (tables_for by_dart xs t) ≡ rooms_for (xs ++ p) t
 unfolding page_lent rooms_for
 page_rooms xs p t =
-    called_stored (record_for by_dart xs t) (record_narrow xs t) (λ s. page_stored (page_call by_dart s p (tables_for by_dart xs t))) _ (tables_for by_dart xs t)
+    called_stored (record_for by_dart xs t) (record_narrow xs t) (λ s. page_stored (page_call by_dart s p (tables_for by_dart xs t))) _
+    (tables_for by_dart xs t)
     ∙ (ap page_stored (call_reads by_dart xs p t) ∙ (unfold page_stored in refl))
 
 -- pages given in order, each to the rooms as the call before it has left them, each call meeting the contract of `kz_page`
@@ -76,7 +78,8 @@ close_rooms : (bytes t : List ℕ) → close_lent (stored_session (record_for by
     ≡ stored (leaves (read_whole by_dart bytes t) t)
 unfolding close_lent
 close_rooms bytes t =
-    called_stored (record_for by_dart bytes t) (record_narrow bytes t) (λ s. stored (close by_dart s (tables_for by_dart bytes t))) _ (tables_for by_dart bytes t)
+    called_stored (record_for by_dart bytes t) (record_narrow bytes t) (λ s. stored (close by_dart s (tables_for by_dart bytes t))) _
+    (tables_for by_dart bytes t)
     ∙ ap stored (close_whole by_dart bytes t)
 
 read_rooms : (bytes t : List ℕ) (y : Lent) → y ≡ close_lent (stored_session (record_for by_dart bytes t)) (tables_for by_dart bytes t)

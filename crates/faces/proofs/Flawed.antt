@@ -72,7 +72,8 @@ module _ (vertices : ℕ) where
     where
       go : Flawed vertices f (flaw_of vertices f) ⊎ ((large vertices f ≡ false) × (poor f ≡ false) × (flaw_of vertices f ≡ 0))
           → Cut vertices (suc k) (c + length f) fs (flaws_from vertices (suc k) (record { number = 0; face = 0; corners = c + length f }) fs)
-          → Cut vertices k c (f ∷ fs) (flaws_from vertices (suc k) (judged_of (record { number = 0; face = 0; corners = c }) k (flaw_of vertices f) (length f)) fs)
+          → Cut vertices k c (f ∷ fs)
+          (flaws_from vertices (suc k) (judged_of (record { number = 0; face = 0; corners = c }) k (flaw_of vertices f) (length f)) fs)
       go (inl x) r =
           let h = flawed_some x in
           let s : Flaw = record { number = flaw_of vertices f; face = k; corners = c } in

@@ -280,7 +280,8 @@ module _ (N n : ℕ) (t : List ℕ) (c : ℕ) (ps : List ℕ) (L : Limits N n t)
   module _ (e : fits ≡ true) where
     entry_fits_lem : (i d : ℕ) → i ≤ N → d < n → entry_by c (get_or ps i 0) d (link by_dart N n t i d) ≡ true
     unfolding entry_at entry_of
-    entry_fits_lem i d hi hd = rw (rank_nth n i d hd, dart_nth n i d hd) at (all_below_lem (size N n) (entry_at N n t c ps) e (i * n + d) (nth_below N n i d hi hd))
+    entry_fits_lem i d hi hd =
+        rw (rank_nth n i d hd, dart_nth n i d hd) at (all_below_lem (size N n) (entry_at N n t c ps) e (i * n + d) (nth_below N n i d hi hd))
 
     fits_knowns : knowns ≡ true
     unfolding known_at

@@ -81,7 +81,8 @@ module _ {keep : ℕ → Bool} {N n : ℕ} {t : List ℕ} {start class tail tail
   }
     where
       -- a marked dart of the orbit is new
-      new : {e : ℕ} → Reached by_dart keep N n t start e → e < n → Marked w' e → (p : ℕ) × (tail ≤ p) × (p < tail') × (queued n w' p ≡ e) × (e < n) × Marked w' e
+      new : {e : ℕ} → Reached by_dart keep N n t start e → e < n → Marked w' e → (p : ℕ) × (tail ≤ p) × (p < tail') × (queued n w' p ≡ e) × (e < n)
+          × Marked w' e
       new {e} r l m = let (p, k, z) = flooded_on.queue.entered e l m in go p k z (dec_lt p tail)
         where
           go : (p : ℕ) → p < tail' → queued n w' p ≡ e → Dec (p < tail) → (p : ℕ) × (tail ≤ p) × (p < tail') × (queued n w' p ≡ e) × (e < n) × Marked w' e

@@ -93,7 +93,8 @@ module _ (x y : ℕ) (hx : x < 256) (hy : y < 256) (rest : List Bool) where
       let e : drop 4 (bits_of 8 x ++ (bits_of 8 y ++ rest)) ≡ low ++ (bits_of 8 y ++ rest) =
       unfold low in drop-append-le 4 (bits_of 8 x) (bits_of 8 y ++ rest) (omega (arith, length_bits 8 x)) in
       let l : length (low ++ bits_of 8 y) ≡ 12 = simp length-append (omega (arith, low_length, length_bits 8 y)) in
-      let f : take 12 (low ++ (bits_of 8 y ++ rest)) ≡ low ++ bits_of 8 y = rw (← append_assoc low (bits_of 8 y) rest) (take_at (low ++ bits_of 8 y) rest 12 l) in
+      let f : take 12 (low ++ (bits_of 8 y ++ rest)) ≡ low ++ bits_of 8 y =
+      rw (← append_assoc low (bits_of 8 y) rest) (take_at (low ++ bits_of 8 y) rest 12 l) in
       let v : value (low ++ bits_of 8 y) ≡ value low * 256 + y = rw (length_bits 8 y, value_bits 8 y hy) at (value_append low (bits_of 8 y)) in
       rw (e, f, v) (omega (arith, halves, low_small))
 
@@ -464,7 +465,8 @@ pub opened_bits : (s : Session) → s ≡ opened → ((s.waiting ≡ 0) ⊎ (s.w
 opened_bits s e = (inl (ap (λ (x : Session). x.waiting) e), omega (arith, ap (λ (x : Session). x.value) e))
 
 -- a whole read: the record and the tables for all the bytes, closed
-module _ (r : Paged) (bytes t u : List ℕ) (o : Session) (eo : o ≡ opened) (e : left_by r u ≡ leaves (reading_of by_dart (waiting_of o ++ unpack bytes) t) t) where
+module _ (r : Paged) (bytes t u : List ℕ) (o : Session) (eo : o ≡ opened)
+    (e : left_by r u ≡ leaves (reading_of by_dart (waiting_of o ++ unpack bytes) t) t) where
   all_read : left_by r u ≡ leaves (reading_of by_dart (unpack bytes) t) t
   all_read = e ∙ ap (λ (s : Session). leaves (reading_of by_dart (waiting_of s ++ unpack bytes) t) t) eo ∙ rw (waiting_none opened refl)
 

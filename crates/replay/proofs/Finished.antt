@@ -126,7 +126,8 @@ module _ {F : Form} {N n : ℕ} {m : List ℕ} {root : ℕ} (P : Rooted N n m ro
   numbered_entry : (d : ℕ) → d < n → number_in n work d ≡ number full d
   unfolding number_in numbering full
   numbered_entry d h =
-      let l : d < length (list_of n (number (names_of F by_dart N n m root)) ++ names_of F by_dart N n m root) = simp (length-append, length_list_of) (omega arith) in
+      let l : d < length (list_of n (number (names_of F by_dart N n m root)) ++ names_of F by_dart N n m root) =
+      simp (length-append, length_list_of) (omega arith) in
       let l' : d < length (list_of n (number (names_of F by_dart N n m root))) = omega (arith, length_list_of n (number (names_of F by_dart N n m root))) in
       rw (lt-ltb d n h, Q.room)
       (get_or-append (list_of n (number (names_of F by_dart N n m root)) ++ names_of F by_dart N n m root) Q.tail mark d l

@@ -39,7 +39,8 @@ index_below_by false false false false e c x q h = let z : e ≡ x.0 = cc in ome
 pub index_below : (N n : ℕ) (t work : List ℕ) (c j p : ℕ) (x : WalkNo) → writes_in by_dart N n t work c j p ≡ One (Index x) → x.0 < c
 unfolding writes_in
 index_below N n t work c j p x h =
-    index_below_by _ _ _ (leb c (number_in n work (link by_dart N n t j (dart_in n work p)))) (number_in n work (link by_dart N n t j (dart_in n work p))) c x refl h
+    index_below_by _ _ _ (leb c (number_in n work (link by_dart N n t j (dart_in n work p)))) (number_in n work (link by_dart N n t j (dart_in n work p)))
+    c x refl h
 
 -- no step takes a number back
 count_grows : (s : Yield) (c : ℕ) → c ≤ count_after s c
@@ -98,7 +99,8 @@ module _ {F : Form} {N n : ℕ} {m : List ℕ} {root : ℕ} (P : Rooted N n m ro
           (steps_written m root R.walking.walk R.walking.names work K.inv K.named A G j (get_or ps j 0) h)
 
       -- the turn itself
-      pub replay_goes : let s = writes_in by_dart N n m work c j (get_or ps j 0) in Replaying F N n m root (count_after s c) (positions_after j ps) (ss ++ told s)
+      pub replay_goes : let s = writes_in by_dart N n m work c j (get_or ps j 0) in
+          Replaying F N n m root (count_after s c) (positions_after j ps) (ss ++ told s)
       unfolding prepend
       replay_goes =
           let s = writes_in by_dart N n m work c j (get_or ps j 0) in

@@ -140,7 +140,8 @@ unfolding close_as leaves unchanged
 close_gives Y s t Header q = Gives.reads _ (closing_finds (Reading.header (waiting_of s)) t (unfold Finds answer_of plain_answer in inl refl)) refl
 close_gives Y s t Running q =
     Gives.reads _ (closing_finds (Reading.running (walk_of Y s t) (waiting_of s)) t (unfold Finds answer_of in inl (good_finds (walk_of Y s t)))) refl
-close_gives Y s t Complete q = Gives.reads _ (closing_finds (Reading.complete (walk_of Y s t)) t (unfold Finds answer_of in inl (good_finds (walk_of Y s t)))) refl
+close_gives Y s t Complete q =
+    Gives.reads _ (closing_finds (Reading.complete (walk_of Y s t)) t (unfold Finds answer_of in inl (good_finds (walk_of Y s t)))) refl
 close_gives Y s t Closed q = Gives.plain 20 0 (λ e. omega arith) refl
 close_gives Y s t (Refused nr p) q = Gives.repeats nr p q refl
 

@@ -26,7 +26,8 @@ use Rattle.rules.specs.Check.{check_answer_of, check_answer, check_work}
 use Rattle.rules.specs.Writing.{stream, page_of, start_verdict, write_verdict, page_after, write_answer_of, write_page, write_answer, write_out, write_work}
 use Rattle.rules.specs.Reading.{Run, Step, step_at, step, onward, run, run_all, Reading, spoiled, test, bodies_found, manifold, finish, settle, begun}
 use Rattle.rules.specs.Reading.{header_form, header_dim, header_darts, read_header, reading_of, closing, tables_of, read_whole}
-use Rattle.rules.specs.Session.{store, walk_at, walk_of, waiting_of, value_fits, only_bits, positions_fit, entries_fit, walk_fits, asks, begins, all_done, fit_as}
+use Rattle.rules.specs.Session.{store, walk_at, walk_of, waiting_of, value_fits, only_bits, positions_fit}
+use Rattle.rules.specs.Session.{entries_fit, walk_fits, asks, begins, all_done, fit_as}
 use Rattle.rules.specs.Session.{fit}
 use Rattle.rules.specs.Session.{Left, leaves, go_on, after_end, page_as, close_as, if_fit, page, close, record_for, tables_for}
 use Rattle.rules.specs.Fetch.{fetch_of, fetching, page_call}

@@ -332,7 +332,8 @@ check_alike F Y N n root t u work A =
 
 -- the writer
 pub write_alike : (F : Form) (Y : Layout) (N n root start : ℕ) (t u work out : List ℕ) → Alike (size N n) t u
-    → (write_answer F Y N n root start t work out ≡ write_answer F Y N n root start u work out) × (write_work F Y N n root t work ≡ write_work F Y N n root u work)
+    → (write_answer F Y N n root start t work out ≡ write_answer F Y N n root start u work out)
+    × (write_work F Y N n root t work ≡ write_work F Y N n root u work)
     × (write_out F Y N n root start t work out ≡ write_out F Y N n root start u work out)
 write_alike F Y N n root start t u work out A =
     alike_links Y N n (λ t u. (write_answer F Y N n root start t work out ≡ write_answer F Y N n root start u work out)
@@ -548,7 +549,8 @@ leaves_carried Z f (Reading.closed w) t = refl
 leaves_carried Z f (Reading.refused nr p u) t = refl
 
 -- the walk of a reading has the sizes of its header
-casts_reading : {Y Z : Layout} {f : List ℕ → List ℕ} (bits : List Bool) (t : List ℕ) → CastsFor Y Z f t (header_sizes bits) → CastsHeld Z f (reading_of Y bits t)
+casts_reading : {Y Z : Layout} {f : List ℕ → List ℕ} (bits : List Bool) (t : List ℕ) → CastsFor Y Z f t (header_sizes bits)
+    → CastsHeld Z f (reading_of Y bits t)
 casts_reading {Y} {Z} {f} bits t C = go (reading_of Y bits t) (comes Y bits t)
   where
     settled_casts : (w : Walk) (bs : List Bool) (r : Reading) → Inv w → CastsOf w Z f → Settled w bs r → CastsHeld Z f r

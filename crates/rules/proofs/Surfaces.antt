@@ -145,6 +145,7 @@ pub moebius_band : List ℕ
 moebius_band = square (λ d. get_or (4 ∷ 5 ∷ 2 ∷ 3 ∷ 0 ∷ 1 ∷ 6 ∷ 7 ∷ []) d 0)
 
 -- the open square is orientable, where document 01 says that it is not; the Moebius band is not, though it is open
-pub square_and_band : (orientable by_dart 2 8 open_square ≡ true) × (former_orientable by_dart 2 8 open_square ≡ false) × (orientable by_dart 2 8 moebius_band ≡ false)
+pub square_and_band : (orientable by_dart 2 8 open_square ≡ true) × (former_orientable by_dart 2 8 open_square ≡ false)
+    × (orientable by_dart 2 8 moebius_band ≡ false)
 unfolding orientable former_orientable apart former_apart crosses differ some_classes all_below place link square open_square moebius_band
 square_and_band = (refl, refl, refl)

@@ -301,7 +301,8 @@ module _ (cs : List Corner) (A : Apart cs) (U : Twice cs) where
   pub two_vertex : (d : ℕ) → d < 2 * length cs → vertex_of cs (link_from cs 2 d) ≡ vertex_of cs d
   two_vertex = by_ends (λ d. vertex_of cs (link_from cs 2 d) ≡ vertex_of cs d) (length cs) (λ c h. own c (side c h)) (λ c h. far c (side c h))
     where
-      own : (c : ℕ) → (length cs ≤ twin cs c) ⊎ ((twin cs c < length cs) × Joined cs c (twin cs c)) → vertex_of cs (link_from cs 2 (2 * c)) ≡ vertex_of cs (2 * c)
+      own : (c : ℕ) → (length cs ≤ twin cs c) ⊎ ((twin cs c < length cs) × Joined cs c (twin cs c))
+          → vertex_of cs (link_from cs 2 (2 * c)) ≡ vertex_of cs (2 * c)
       own c (inl l) = ap (vertex_of cs) (free_own cs c l)
       own c (inr (l, straight p q w x y z)) = ap (vertex_of cs) w ∙ (vertex_own cs (twin cs c) ∙ (sym p ∙ sym (vertex_own cs c)))
       own c (inr (l, crossed p q w x y z)) = ap (vertex_of cs) w ∙ (vertex_far cs (twin cs c) ∙ (sym p ∙ sym (vertex_own cs c)))
@@ -314,7 +315,8 @@ module _ (cs : List Corner) (A : Apart cs) (U : Twice cs) where
 
   -- the manifold condition: a0, a2, a0, a2 lead back
   pub zero_two : (d : ℕ) → d < 2 * length cs → link_from cs 2 (link_from cs 0 (link_from cs 2 (link_from cs 0 d))) ≡ d
-  zero_two = by_ends (λ d. link_from cs 2 (link_from cs 0 (link_from cs 2 (link_from cs 0 d))) ≡ d) (length cs) (λ c h. own c (side c h)) (λ c h. far c (side c h))
+  zero_two = by_ends (λ d. link_from cs 2 (link_from cs 0 (link_from cs 2 (link_from cs 0 d))) ≡ d) (length cs) (λ c h. own c (side c h))
+      (λ c h. far c (side c h))
     where
       around : (a b c d e : ℕ) → link_from cs 0 a ≡ b → link_from cs 2 b ≡ c → link_from cs 0 c ≡ d → link_from cs 2 d ≡ e
           → link_from cs 2 (link_from cs 0 (link_from cs 2 (link_from cs 0 a))) ≡ e

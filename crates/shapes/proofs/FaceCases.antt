@@ -30,7 +30,8 @@ pub data SameTwo (x y : Corner) : Type 0 where
 pub data FaceCase (vertices : ℕ) (fs : List (List ℕ)) : (number face : ℕ) → Type 0 where
   too_large : (k i : ℕ) → k < length fs → i < length (get_or fs k []) → vertices ≤ get_or (get_or fs k []) i 0 → FaceCase vertices fs 27 k
   few : (k : ℕ) → k < length fs → length (get_or fs k []) < 3 → FaceCase vertices fs 28 k
-  level : (k i : ℕ) → k < length fs → suc i < length (get_or fs k []) → get_or (get_or fs k []) i 0 ≡ get_or (get_or fs k []) (suc i) 0 → FaceCase vertices fs 28 k
+  level : (k i : ℕ) → k < length fs → suc i < length (get_or fs k []) → get_or (get_or fs k []) i 0 ≡ get_or (get_or fs k []) (suc i) 0
+      → FaceCase vertices fs 28 k
   closed : (k i : ℕ) → k < length fs → suc i ≡ length (get_or fs k []) → get_or (get_or fs k []) i 0 ≡ get_or (get_or fs k []) 0 0 → FaceCase vertices fs 28 k
   thrice : (k a b c : ℕ) → Of fs k c → a < b → b < c → SameTwo (corner_at (all_corners 0 fs) a) (corner_at (all_corners 0 fs) c)
       → SameTwo (corner_at (all_corners 0 fs) b) (corner_at (all_corners 0 fs) c) → FaceCase vertices fs 29 k

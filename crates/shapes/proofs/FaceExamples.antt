@@ -6,7 +6,8 @@ use Rattle.rules.specs.Lists.{span, range, list_of, all_below, some_below, count
 use Rattle.rules.specs.Map.{by_dart, dim_fits, darts_fit, place, link, blank, pairs, pairs_for, pairs_of, broken, first_broken, all_ranks, all_but}
 use Rattle.rules.specs.Map.{spread, within, reaches}
 use Rattle.rules.specs.Walk.{start, head_from, tail, link_of, unknown, deduce, partner, pass, join, fresh, is_none, due, one_more, resume, tie, steps, apply}
-use Rattle.rules.specs.Walk.{enough, symbol_of, named, write_symbol, write_with, write_at, least_unnumbered, resume_names, resumed, write_step, prepend, write_on}
+use Rattle.rules.specs.Walk.{enough, symbol_of, named, write_symbol, write_with, write_at, least_unnumbered}
+use Rattle.rules.specs.Walk.{resume_names, resumed, write_step, prepend, write_on}
 use Rattle.rules.specs.Walk.{write, walked, symbols_of, names_of}
 use Rattle.rules.specs.Bodies as forms
 use Rattle.rules.specs.Refusals.{among, of_bodies}
@@ -78,12 +79,17 @@ examples =
     ∷ []
 
 pub examples_right : map (λ (x : Example). faces_answer by_dart x.text lent room) examples ≡ map (λ (x : Example). x.answer) examples
-unfolding examples lent room span range list_of all_below some_below count_below scan first number sum dim_fits darts_fit place link blank pairs pairs_for pairs_of
-    broken first_broken all_ranks all_but spread within reaches start head_from tail link_of unknown deduce partner pass join fresh is_none due one_more resume tie
-    steps apply enough symbol_of named write_symbol write_with write_at least_unnumbered resume_names resumed write_step prepend write_on write walked symbols_of
-    names_of refuse_if spot outside twisted unreached bodies_verdict tables_verdict verdict numbering work_after among of_bodies is_blank commented gap word_from
+unfolding examples lent room span range list_of all_below some_below count_below scan first number sum dim_fits darts_fit place link blank pairs pairs_for
+    pairs_of
+    broken first_broken all_ranks all_but spread within reaches start head_from tail link_of unknown deduce partner pass join fresh is_none due one_more
+    resume tie
+    steps apply enough symbol_of named write_symbol write_with write_at least_unnumbered resume_names resumed write_step prepend write_on write walked
+    symbols_of
+    names_of refuse_if spot outside twisted unreached bodies_verdict tables_verdict verdict numbering work_after among of_bodies is_blank commented gap
+    word_from
     word_end line_end next provided word keyword is_digit value text.number several forms.several face file some corners_to corners all_corners corner_at alike
-    large poor third faces_verdict darts_of vertex_of corner_before corner_after twin link_from rank_at dart_at map_on corners_of read_verdict refusal faces_answer_of
+    large poor third faces_verdict darts_of vertex_of corner_before corner_after twin link_from rank_at dart_at map_on corners_of read_verdict refusal
+    faces_answer_of
     tables_after faces_answer faces_tables faces_work
 examples_right = refl
 
@@ -97,11 +103,17 @@ pub two_rooms : (faces_tables by_dart two lent room
     ≡ 1 ∷ 5 ∷ 0 ∷ 0 ∷ 2 ∷ 1 ∷ 3 ∷ 1 ∷ 6 ∷ 2 ∷ 4 ∷ 7 ∷ 5 ∷ 3 ∷ 4 ∷ 4 ∷ 0 ∷ 5 ∷ 7 ∷ 11 ∷ 2 ∷ 6 ∷ 8 ∷ 3 ∷ 9 ∷ 7 ∷ 8 ∷ 8 ∷ 10 ∷ 9 ∷ 11 ∷ 9 ∷ 10 ∷ 10 ∷ 6 ∷ 11 ∷ [])
     × (faces_work by_dart two lent room
     ≡ 0 ∷ 1 ∷ 4 ∷ 5 ∷ 3 ∷ 2 ∷ 6 ∷ 7 ∷ 10 ∷ 11 ∷ 9 ∷ 8 ∷ 0 ∷ 1 ∷ 5 ∷ 4 ∷ 2 ∷ 3 ∷ 6 ∷ 7 ∷ 11 ∷ 10 ∷ 8 ∷ 9 ∷ [])
-unfolding two lent room span range list_of all_below some_below count_below scan first number sum dim_fits darts_fit place link blank pairs pairs_for pairs_of broken
-    first_broken all_ranks all_but spread within reaches start head_from tail link_of unknown deduce partner pass join fresh is_none due one_more resume tie steps
-    apply enough symbol_of named write_symbol write_with write_at least_unnumbered resume_names resumed write_step prepend write_on write walked symbols_of names_of
-    refuse_if spot outside twisted unreached bodies_verdict tables_verdict verdict numbering work_after among of_bodies is_blank commented gap word_from word_end
-    line_end next provided word keyword is_digit value text.number several forms.several face file some corners_to corners all_corners corner_at alike large poor
-    third faces_verdict darts_of vertex_of corner_before corner_after twin link_from rank_at dart_at map_on corners_of read_verdict refusal faces_answer_of tables_after
+unfolding two lent room span range list_of all_below some_below count_below scan first number sum dim_fits darts_fit place link blank pairs pairs_for
+    pairs_of broken
+    first_broken all_ranks all_but spread within reaches start head_from tail link_of unknown deduce partner pass join fresh is_none due one_more resume
+    tie steps
+    apply enough symbol_of named write_symbol write_with write_at least_unnumbered resume_names resumed write_step prepend write_on write walked symbols_of
+    names_of
+    refuse_if spot outside twisted unreached bodies_verdict tables_verdict verdict numbering work_after among of_bodies is_blank commented gap word_from
+    word_end
+    line_end next provided word keyword is_digit value text.number several forms.several face file some corners_to corners all_corners corner_at alike
+    large poor
+    third faces_verdict darts_of vertex_of corner_before corner_after twin link_from rank_at dart_at map_on corners_of read_verdict refusal faces_answer_of
+    tables_after
     faces_answer faces_tables faces_work
 two_rooms = (refl, refl)

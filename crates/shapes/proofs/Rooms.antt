@@ -53,7 +53,8 @@ module _ (Y : Layout) (cs : List Corner) (t u : List ℕ) (same : length t ≡ l
           ∙ take_all (size 2 (darts_of cs)) (laid Y 2 (darts_of cs) (link_from cs)) (omega arith))
 
   -- and the check does not read what is past them
-  verdict_unread : (work : List ℕ) → verdict One Y 2 (darts_of cs) 0 (map_on Y cs t) (length work) ≡ verdict One Y 2 (darts_of cs) 0 (map_on Y cs u) (length work)
+  verdict_unread : (work : List ℕ) → verdict One Y 2 (darts_of cs) 0 (map_on Y cs t) (length work) ≡ verdict One Y 2 (darts_of cs) 0 (map_on Y cs u)
+      (length work)
   unfolding check_answer verdict refuse_if dim_fits
   verdict_unread work = go (dec_le (size 2 (darts_of cs)) (length t))
     where
@@ -173,7 +174,8 @@ others_leave Y text t work = go (read_verdict Y (file text) t (length work)) ref
     cs : List Corner
     cs = corners_of (file text)
 
-    go : (v : Verdict) → read_verdict Y (file text) t (length work) ≡ v → (faces_answer_of (darts_of cs) v).number ≢ 0 → (faces_answer_of (darts_of cs) v).number ≢ 9
+    go : (v : Verdict) → read_verdict Y (file text) t (length work) ≡ v → (faces_answer_of (darts_of cs) v).number ≢ 0
+        → (faces_answer_of (darts_of cs) v).number ≢ 9
         → (tables_after Y cs t v ≡ t) × (work_after One Y 2 (darts_of cs) 0 (map_on Y cs t) work v ≡ work)
     go Verdict.fine q n m = absurd (n refl)
     go (Verdict.refused nr p) q n m = unfold of_bodies among in

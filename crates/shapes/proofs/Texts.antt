@@ -430,7 +430,8 @@ module _ (t : List ℕ) where
 
   told : Told (file t)
   unfolding file left faces_left words_left
-  told = told_reads at_off (λ x e. told_reads at_vertex_count (λ v e. told_reads at_face_count (λ f e. told_reads at_edge_count (λ x. told_words v f (3 * v))))) start
+  told = told_reads at_off
+      (λ x e. told_reads at_vertex_count (λ v e. told_reads at_face_count (λ f e. told_reads at_edge_count (λ x. told_words v f (3 * v))))) start
 
   -- 26 is a fault of the text, and its place is the fault's
   pub bad_fault : (w : ℕ) → file t ≡ bad w → (s : Stage) × (p : ℕ) × Stands s p × Fault s p w

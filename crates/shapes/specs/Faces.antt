@@ -1,6 +1,7 @@
 -- Document 02, E5, "Post from indexed face files", its map: the corners of the faces; 27, 28 and 29 face by face; the links of the darts; the answer, and the
 -- rooms after it.
-use Rattle.std.specs.Prelude.{ℕ, zero, suc, ◌+◌, ◌*◌, ◌-◌, ◌/◌, ◌%◌, List, [], ◌∷◌, ◌++◌, Bool, false, not, ◌&&◌, ◌||◌, cond, length, get_or, drop, eqb, ltb, leb}
+use Rattle.std.specs.Prelude.{ℕ, zero, suc, ◌+◌, ◌*◌, ◌-◌, ◌/◌, ◌%◌, List, [], ◌∷◌, ◌++◌, Bool}
+use Rattle.std.specs.Prelude.{false, not, ◌&&◌, ◌||◌, cond, length, get_or, drop, eqb, ltb, leb}
 use Rattle.shapes.specs.declared.FacesAnswer.{FacesAnswer}
 use Rattle.rules.specs.declared.Form.TheVariants.{One}
 use Rattle.rules.specs.Lists.{some_below, count_below, list_of, first}
@@ -137,4 +138,6 @@ faces_tables Y text t work = let r = file text in tables_after Y (corners_of r) 
 
 -- the work room after it
 unfoldable pub faces_work : Layout → List ℕ → List ℕ → List ℕ → List ℕ
-faces_work Y text t work = let r = file text in work_after One Y 2 (darts_of (corners_of r)) 0 (map_on Y (corners_of r) t) work (read_verdict Y r t (length work))
+faces_work Y text t work =
+    let r = file text in
+    work_after One Y 2 (darts_of (corners_of r)) 0 (map_on Y (corners_of r) t) work (read_verdict Y r t (length work))

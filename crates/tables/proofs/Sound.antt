@@ -74,7 +74,8 @@ module _ (N n : ℕ) (t : List ℕ) (d j : ℕ) (e : sound_link N n t d j ≡ tr
 
       go : (ltb x d ≡ true) ⊎ (all_below (j - 1) (commutes_at N n t j d) ≡ true) → (x < d) ⊎ ((y < d) ⊎ (link by_dart N n t j y ≡ link by_dart N n t i x))
       go (inl q) = inl (ltb-true x d q)
-      go (inr q) = pair (or_cases (ltb y d) (eqb (link by_dart N n t j y) (link by_dart N n t i x)) (all_below_lem (j - 1) (commutes_at N n t j d) q i (omega arith)))
+      go (inr q) = pair (or_cases (ltb y d) (eqb (link by_dart N n t j y) (link by_dart N n t i x))
+          (all_below_lem (j - 1) (commutes_at N n t j d) q i (omega arith)))
 
 -- the links of a dart below the rank that the loop has come to are darts
 pub inside_so_far : (N n : ℕ) (t : List ℕ) (d j : ℕ) → PassedSoFar (sound_link N n t d) (suc N) j → (i : ℕ) → i < j → link by_dart N n t i d < n

@@ -77,7 +77,8 @@ module _ (t : List ℕ) (w : ℕ) where
     pub counting_small : p < w + 9 → v < 100000000
     counting_small h = rw c.is (value_small t w (p - w) (omega arith) c.digits)
 
-    pub counting_next : p < length t → p < w + 9 → stop (get_or t p 0) ≡ false → is_digit (get_or t p 0) ≡ true → Counting t w (p + 1) (v * 10 + (get_or t p 0 - 48))
+    pub counting_next : p < length t → p < w + 9 → stop (get_or t p 0) ≡ false → is_digit (get_or t p 0) ≡ true
+        → Counting t w (p + 1) (v * 10 + (get_or t p 0 - 48))
     unfolding value
     counting_next h l s d =
         let a = c.from in

@@ -98,7 +98,8 @@ went_none N n m work c ps start pen out = record { writing = λ F root first len
 
 module _ {N n : ℕ} {m : List ℕ} (L : Limits N n m) (A : Valid by_dart N n m) {start c0 c : ℕ} {work ps0 ps out0 out : List ℕ} {pen0 pen : Pen}
     (W : WentOn N n m work c0 ps0 start pen0 out0 c ps pen out) where
-  pub went_goes : (j : ℕ) → Lowest N c ps j → (k : Replayed) → k ≡ replayed_in by_dart N n m work c j (get_or ps j 0) → {ps' : List ℕ} → ps' ≡ positions_after j ps
+  pub went_goes : (j : ℕ) → Lowest N c ps j → (k : Replayed) → k ≡ replayed_in by_dart N n m work c j (get_or ps j 0) → {ps' : List ℕ}
+      → ps' ≡ positions_after j ps
       → {q : Pen} {o' : List ℕ} → Put (codes (told k.written)) start pen q out o' → WentOn N n m work c0 ps0 start pen0 out0 k.count ps' q o'
   went_goes j e k ek ep u = record {
     writing = λ F root first lent Q Y. writing_goes (rooted_by L A Q) Q (W.writing F root first lent Q Y) j e k ek ep u;

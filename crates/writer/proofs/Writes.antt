@@ -56,7 +56,8 @@ pub put_stream : (F : Form) (N n : ℕ) (t : List ℕ) (root : ℕ) {from : ℕ}
 unfolding stream_bits
 put_stream F N n t root a b = put_both a b
 
-pub stream_bits_lem : (F : Form) (N n : ℕ) (t : List ℕ) (root : ℕ) → N ≤ 6 → n ≤ 4096 → root < n → Valid by_dart N n t → length (stream_bits F N n t root) ≤ 401424
+pub stream_bits_lem : (F : Form) (N n : ℕ) (t : List ℕ) (root : ℕ) → N ≤ 6 → n ≤ 4096 → root < n → Valid by_dart N n t
+    → length (stream_bits F N n t root) ≤ 401424
 unfolding stream_bits
 stream_bits_lem F N n t root h6 hn hr A =
     omega (arith, length-append (header F N n) (codes (symbols_of F by_dart N n t root)), header_length F N n, symbols_few F by_dart N n t root h6 hn hr A)
@@ -112,7 +113,8 @@ module _ (F : Form) (N n root : ℕ) (t work : List ℕ) (c : CheckAnswer) (ec :
     write_longest = let (L, A, C, w) = write_limits in stream_longest F by_dart N n t root L.dims.1 L.darts.1 (wanted_rooted F by_dart N n t root C) A
 
     -- 10: no byte of the stream falls into the page
-    pub write_late : (from l : ℕ) (out out' : List ℕ) → l ≡ length (stream F by_dart N n t root) → l < from → out' ≡ penned (stream F by_dart N n t root) from out
+    pub write_late : (from l : ℕ) (out out' : List ℕ) → l ≡ length (stream F by_dart N n t root) → l < from
+        → out' ≡ penned (stream F by_dart N n t root) from out
         → (record { number = 10; place = l; written = 0; length = 0 } ≡ write_answer F by_dart N n root from t work out)
         × (out' ≡ write_out F by_dart N n root from t work out)
     unfolding write_answer write_out write_page write_verdict start_verdict page_after write_answer_of refuse_if penned page_of

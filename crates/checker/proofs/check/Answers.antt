@@ -12,7 +12,7 @@ returns-then-first-ne0 c = check_sizes _ _ _ _ _ _ _ c.misfit-first.ensures c.if
 pub misbuilt-next-requires : goal.misbuilt-next-requires
 misbuilt-next-requires c =
     let limits : let a = c.args in Limits a.dim a.darts a.tables.now × (2 * a.darts ≤ length a.work.now) × (a.root < a.darts) =
-        let a = c.args in check_limits a.form _ _ _ _ a.work.now _ c.misfit-first.ensures c.if-first-ne0.false in
+    let a = c.args in check_limits a.form _ _ _ _ a.work.now _ c.misfit-first.ensures c.if-first-ne0.false in
     (limits).0
 
 pub returns-then-next-ne0 : goal.returns-then-next-ne0
@@ -21,16 +21,16 @@ returns-then-next-ne0 c = check_tables _ _ _ _ _ _ _ c.misfit-first.ensures c.if
 pub number_all-bodies-requires : goal.number_all-bodies-requires
 number_all-bodies-requires c =
     let limits : let a = c.args in Limits a.dim a.darts a.tables.now × (2 * a.darts ≤ length a.work.now) × (a.root < a.darts) =
-        let a = c.args in check_limits a.form _ _ _ _ a.work.now _ c.misfit-first.ensures c.if-first-ne0.false in
+    let a = c.args in check_limits a.form _ _ _ _ a.work.now _ c.misfit-first.ensures c.if-first-ne0.false in
     let valid : let a = c.args in Valid by_dart a.dim a.darts a.tables.now =
-        let a = c.args in
+    let a = c.args in
     check_valid a.form _ _ _ _ a.work.now _ c.misfit-first.ensures c.if-first-ne0.false _ c.misbuilt-next.ensures c.if-next-ne0.false in
     let (l, w, r) = limits in (l, r, w, valid)
 
 pub misjoined-last-requires : goal.misjoined-last-requires
 misjoined-last-requires c =
     let limits : let a = c.args in Limits a.dim a.darts a.tables.now × (2 * a.darts ≤ length a.work.now) × (a.root < a.darts) =
-        let a = c.args in check_limits a.form _ _ _ _ a.work.now _ c.misfit-first.ensures c.if-first-ne0.false in
+    let a = c.args in check_limits a.form _ _ _ _ a.work.now _ c.misfit-first.ensures c.if-first-ne0.false in
     let l = limits in (omega (arith, l.1), l.0.darts.1)
 
 pub returns-then-last-eq0 : goal.returns-then-last-eq0
@@ -42,13 +42,13 @@ returns-then-last-eq0 c =
 pub overflow_mul-darts : goal.overflow_mul-darts
 overflow_mul-darts c =
     let limits : let a = c.args in Limits a.dim a.darts a.tables.now × (2 * a.darts ≤ length a.work.now) × (a.root < a.darts) =
-        let a = c.args in check_limits a.form _ _ _ _ a.work.now _ c.misfit-first.ensures c.if-first-ne0.false in
+    let a = c.args in check_limits a.form _ _ _ _ a.work.now _ c.misfit-first.ensures c.if-first-ne0.false in
     omega (arith, limits.0.darts.1)
 
 pub blank-requires : goal.blank-requires
 blank-requires c =
     let limits : let a = c.args in Limits a.dim a.darts a.tables.now × (2 * a.darts ≤ length a.work.now) × (a.root < a.darts) =
-        let a = c.args in check_limits a.form _ _ _ _ a.work.now _ c.misfit-first.ensures c.if-first-ne0.false in
+    let a = c.args in check_limits a.form _ _ _ _ a.work.now _ c.misfit-first.ensures c.if-first-ne0.false in
     omega (arith, limits.1)
 
 pub returns : goal.returns

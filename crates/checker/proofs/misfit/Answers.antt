@@ -19,13 +19,13 @@ returns-then-dim-gt6 c = misfit_dim _ _ _ _ _ (dim_high _ c.if-dim-gt6.true)
 pub returns-then-darts-lt1 : goal.returns-then-darts-lt1
 returns-then-darts-lt1 c =
     let dims : dim_fits c.args.dim ≡ true =
-        fits_dim c.args.dim (omega arith) (omega arith) in
+    fits_dim c.args.dim (omega arith) (omega arith) in
     misfit_darts _ _ _ _ _ dims (darts_low _ c.if-darts-lt1.true)
 
 pub returns-then-darts-gt-DARTS : goal.returns-then-darts-gt-DARTS
 returns-then-darts-gt-DARTS c =
     let dims : dim_fits c.args.dim ≡ true =
-        fits_dim c.args.dim (omega arith) (omega arith) in
+    fits_dim c.args.dim (omega arith) (omega arith) in
     misfit_darts _ _ _ _ _ dims (darts_high _ c.if-darts-gt-DARTS.true)
 
 pub overflow_mul-dim : goal.overflow_mul-dim
@@ -37,37 +37,37 @@ overflow_mul-dim c =
 pub returns-then-tables-dim : goal.returns-then-tables-dim
 returns-then-tables-dim c =
     let dims : dim_fits c.args.dim ≡ true =
-        fits_dim c.args.dim (omega arith) (omega arith) in
+    fits_dim c.args.dim (omega arith) (omega arith) in
     let some : darts_fit c.args.darts ≡ true =
-        fits_darts c.args.darts (omega arith) (omega arith) in
+    fits_darts c.args.darts (omega arith) (omega arith) in
     misfit_tables _ _ _ _ _ dims some (omega arith)
 
 pub returns-then-work-darts : goal.returns-then-work-darts
 returns-then-work-darts c =
     let dims : dim_fits c.args.dim ≡ true =
-        fits_dim c.args.dim (omega arith) (omega arith) in
+    fits_dim c.args.dim (omega arith) (omega arith) in
     let some : darts_fit c.args.darts ≡ true =
-        fits_darts c.args.darts (omega arith) (omega arith) in
+    fits_darts c.args.darts (omega arith) (omega arith) in
     let enough : let a = c.args in size a.dim a.darts ≤ a.tables =
-        omega arith in
+    omega arith in
     misfit_work _ _ _ _ _ dims some enough c.if-work-darts.true
 
 pub returns-then-darts-root : goal.returns-then-darts-root
 returns-then-darts-root c =
     let dims : dim_fits c.args.dim ≡ true =
-        fits_dim c.args.dim (omega arith) (omega arith) in
+    fits_dim c.args.dim (omega arith) (omega arith) in
     let some : darts_fit c.args.darts ≡ true =
-        fits_darts c.args.darts (omega arith) (omega arith) in
+    fits_darts c.args.darts (omega arith) (omega arith) in
     let enough : let a = c.args in size a.dim a.darts ≤ a.tables =
-        omega arith in
+    omega arith in
     misfit_root _ _ _ _ _ dims some enough c.if-work-darts.false c.if-darts-root.true
 
 pub returns : goal.returns
 returns c =
     let dims : dim_fits c.args.dim ≡ true =
-        fits_dim c.args.dim (omega arith) (omega arith) in
+    fits_dim c.args.dim (omega arith) (omega arith) in
     let some : darts_fit c.args.darts ≡ true =
-        fits_darts c.args.darts (omega arith) (omega arith) in
+    fits_darts c.args.darts (omega arith) (omega arith) in
     let enough : let a = c.args in size a.dim a.darts ≤ a.tables =
-        omega arith in
+    omega arith in
     misfit_none _ _ _ _ _ dims some enough c.if-work-darts.false c.if-darts-root.false

@@ -26,8 +26,13 @@ pub loop-i-smaller : goal.loop-i-smaller
 loop-i-smaller c = omega arith
 
 pub loop-i-preserved : goal.loop-i-preserved
-loop-i-preserved c =
-    (c.cells.auto.work ∙ c.loop-i.invariant.0, omega arith, tallied_next c.loop-i.invariant.2 _ (omega arith) c.cells.ensures.0, c.cells.ensures.1 ∙ c.loop-i.invariant.3)
+loop-i-preserved c = (
+  c.cells.auto.work ∙ c.loop-i.invariant.0,
+  omega arith,
+  tallied_next c.loop-i.invariant.2 _ (omega arith) c.cells.ensures.0,
+  c.cells.ensures.1
+      ∙ c.loop-i.invariant.3,
+)
 
 pub offset_bounds-counts-dim : goal.offset_bounds-counts-dim
 offset_bounds-counts-dim c = omega arith

@@ -30,7 +30,7 @@ overflow_cast-d c = omega arith
 pub flood-tail-requires : goal.flood-tail-requires
 flood-tail-requires c =
     let dart-below : c.loop-tail.d < c.args.darts =
-        swept_more c.loop-tail.invariant.2 c.loop-tail-test.true in
+    swept_more c.loop-tail.invariant.2 c.loop-tail-test.true in
     let p = c.requires in
     let hd = dart-below in
     (p.0, c.loop-tail.invariant.2.queue, rw c.all_but-ranks.ensures (omega arith), orbit_inside p.1 (omega (arith, hd)), omega arith)
@@ -44,20 +44,23 @@ overflow_add-d c = omega arith
 pub loop-tail-smaller : goal.loop-tail-smaller
 loop-tail-smaller c =
     let dart-below : c.loop-tail.d < c.args.darts =
-        swept_more c.loop-tail.invariant.2 c.loop-tail-test.true in
+    swept_more c.loop-tail.invariant.2 c.loop-tail-test.true in
     omega (arith, dart-below)
 
 pub loop-tail-preserved : goal.loop-tail-preserved
 loop-tail-preserved c =
     let dart-below : c.loop-tail.d < c.args.darts =
-        swept_more c.loop-tail.invariant.2 c.loop-tail-test.true in
+    swept_more c.loop-tail.invariant.2 c.loop-tail-test.true in
     let (same, below, R, past) = c.loop-tail.invariant in
     let v = c.requires.1 in
     let skip = c.args.skip in
     let hd = dart-below in
-    elim c.if-work-d.branch [ then-work-d w ↦ let F = flooded_but skip c.all_but-ranks.ensures w.flood-tail.ensures in
-    let kept = (flooded_on R.queue (omega (arith, hd)) (omega arith) F).past ∙ past in
-    rw (w.work-is, w.found-is, w.tail-is) (w.flood-tail.auto.work ∙ same, omega (arith, hd), swept_new v R hd w.if-work-d.true F, kept) | else-work-d w ↦ rw (w.work-is, w.found-is, w.tail-is) (same, omega (arith, hd), swept_old v R hd w.if-work-d.false, past) ]
+    elim c.if-work-d.branch [
+      | then-work-d w ↦ let F = flooded_but skip c.all_but-ranks.ensures w.flood-tail.ensures in
+          let kept = (flooded_on R.queue (omega (arith, hd)) (omega arith) F).past ∙ past in
+          rw (w.work-is, w.found-is, w.tail-is) (w.flood-tail.auto.work ∙ same, omega (arith, hd), swept_new v R hd w.if-work-d.true F, kept)
+      | else-work-d w ↦ rw (w.work-is, w.found-is, w.tail-is) (same, omega (arith, hd), swept_old v R hd w.if-work-d.false, past)
+    ]
 
 pub returns : goal.returns
 returns c =

@@ -7,7 +7,8 @@ use Rattle.counts.proofs.Counts.{Swept}
 use Rattle.counts.proofs.cells.Given as goal
 
 abbrev pub invariant-loop-tail : goal.invariant-loop-tail
-invariant-loop-tail l = (length l.work ≡ length l.initial.work) × (l.d ≤ l.darts) × Swept l.dim l.darts l.tables l.skip l.d l.tail l.found l.work × (drop (2 * l.darts) l.work ≡ drop (2 * l.darts) l.initial.work)
+invariant-loop-tail l = (length l.work ≡ length l.initial.work) × (l.d ≤ l.darts) × Swept l.dim l.darts l.tables l.skip l.d l.tail l.found l.work
+    × (drop (2 * l.darts) l.work ≡ drop (2 * l.darts) l.initial.work)
 
 abbrev pub decreases-loop-tail : goal.decreases-loop-tail
 decreases-loop-tail l = l.darts - l.d

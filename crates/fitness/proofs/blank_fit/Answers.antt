@@ -24,7 +24,10 @@ loop-k-smaller c = omega arith
 
 pub loop-k-preserved : goal.loop-k-preserved
 loop-k-preserved c =
-    elim c.if-tables-k.branch [ then-tables-k w ↦ rw w.bad-is (tallied_fail c.loop-k.invariant (omega arith) (blank_no _ c.loop-k.k w.if-tables-k.true)) | else-tables-k w ↦ rw w.bad-is (tallied_pass c.loop-k.invariant (omega arith) (blank_yes _ c.loop-k.k w.if-tables-k.false)) ]
+    elim c.if-tables-k.branch [
+      | then-tables-k w ↦ rw w.bad-is (tallied_fail c.loop-k.invariant (omega arith) (blank_no _ c.loop-k.k w.if-tables-k.true))
+      | else-tables-k w ↦ rw w.bad-is (tallied_pass c.loop-k.invariant (omega arith) (blank_yes _ c.loop-k.k w.if-tables-k.false))
+    ]
 
 pub returns : goal.returns
 returns c = tallied_end c.loop-k.invariant (omega arith)

@@ -8,19 +8,19 @@ use Rattle.fitness.proofs.entries_fit.Goals as goal
 pub overflow_mul-passed : goal.overflow_mul-passed
 overflow_mul-passed c =
     let ends : let a = c.args in Runs a.dim a.darts a.count (get_or a.positions a.dim 0) =
-        let p = c.requires in runs_end _ _ _ _ c.args.positions p.0 p.1 p.2 p.3 in
+    let p = c.requires in runs_end _ _ _ _ c.args.positions p.0 p.1 p.2 p.3 in
     omega (arith, ends)
 
 pub overflow_mul-numbered : goal.overflow_mul-numbered
 overflow_mul-numbered c =
     let ends : let a = c.args in Runs a.dim a.darts a.count (get_or a.positions a.dim 0) =
-        let p = c.requires in runs_end _ _ _ _ c.args.positions p.0 p.1 p.2 p.3 in
+    let p = c.requires in runs_end _ _ _ _ c.args.positions p.0 p.1 p.2 p.3 in
     omega (arith, ends)
 
 pub known_fit-requires : goal.known_fit-requires
 known_fit-requires c =
     let ends : let a = c.args in Runs a.dim a.darts a.count (get_or a.positions a.dim 0) =
-        let p = c.requires in runs_end _ _ _ _ c.args.positions p.0 p.1 p.2 p.3 in
+    let p = c.requires in runs_end _ _ _ _ c.args.positions p.0 p.1 p.2 p.3 in
     omega (arith, ends)
 
 pub returns-then-not-known_fit : goal.returns-then-not-known_fit
@@ -31,7 +31,7 @@ returns-then-not-known_fit c =
 pub open_fit-requires : goal.open_fit-requires
 open_fit-requires c =
     let ends : let a = c.args in Runs a.dim a.darts a.count (get_or a.positions a.dim 0) =
-        let p = c.requires in runs_end _ _ _ _ c.args.positions p.0 p.1 p.2 p.3 in
+    let p = c.requires in runs_end _ _ _ _ c.args.positions p.0 p.1 p.2 p.3 in
     omega (arith, ends)
 
 pub returns-then-not-open_fit : goal.returns-then-not-open_fit
@@ -42,7 +42,7 @@ returns-then-not-open_fit c =
 pub blank_fit-requires : goal.blank_fit-requires
 blank_fit-requires c =
     let ends : let a = c.args in Runs a.dim a.darts a.count (get_or a.positions a.dim 0) =
-        let p = c.requires in runs_end _ _ _ _ c.args.positions p.0 p.1 p.2 p.3 in
+    let p = c.requires in runs_end _ _ _ _ c.args.positions p.0 p.1 p.2 p.3 in
     omega (arith, ends)
 
 pub returns-then-not-blank_fit : goal.returns-then-not-blank_fit

@@ -25,7 +25,10 @@ loop-k-smaller c = omega arith
 pub loop-k-preserved : goal.loop-k-preserved
 loop-k-preserved c =
     let a = c.args in
-    elim c.if-count-tables.branch [ then-count-tables w ↦ rw w.bad-is (tallied_fail c.loop-k.invariant (omega arith) (known_no _ a.count c.loop-k.k w.if-count-tables.true)) | else-count-tables w ↦ rw w.bad-is (tallied_pass c.loop-k.invariant (omega arith) (known_yes _ a.count c.loop-k.k w.if-count-tables.false)) ]
+    elim c.if-count-tables.branch [
+      | then-count-tables w ↦ rw w.bad-is (tallied_fail c.loop-k.invariant (omega arith) (known_no _ a.count c.loop-k.k w.if-count-tables.true))
+      | else-count-tables w ↦ rw w.bad-is (tallied_pass c.loop-k.invariant (omega arith) (known_yes _ a.count c.loop-k.k w.if-count-tables.false))
+    ]
 
 pub returns : goal.returns
 returns c = tallied_end c.loop-k.invariant (omega arith)

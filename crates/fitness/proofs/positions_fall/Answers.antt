@@ -33,8 +33,11 @@ loop-i-smaller c = omega arith
 
 pub loop-i-preserved : goal.loop-i-preserved
 loop-i-preserved c =
-    let a = c.args in
-    (passed_next c.loop-i.invariant.0 (omega arith) (falls_yes a.count c.loop-i.above a.positions c.loop-i.i c.loop-i.invariant.1 c.if-above-positions.false), next_above a.count a.positions c.loop-i.i)
+    let a = c.args in (
+      passed_next c.loop-i.invariant.0 (omega arith)
+          (falls_yes a.count c.loop-i.above a.positions c.loop-i.i c.loop-i.invariant.1 c.if-above-positions.false),
+      next_above a.count a.positions c.loop-i.i,
+    )
 
 pub returns : goal.returns
 returns c = passed_end c.loop-i.invariant.0 (omega arith)

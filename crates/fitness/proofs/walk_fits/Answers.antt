@@ -48,7 +48,7 @@ entries_fit-requires c =
 pub returns : goal.returns
 returns c =
     let sized : let a = c.args in Sized a.s a.tables.now =
-        record {
+    record {
       low = c.if-dim-lt1.false;
       high = c.if-dim-gt6.false;
       some = c.if-darts-lt1.false;
@@ -58,4 +58,5 @@ returns c =
       within = c.if-darts-s.false;
     } in
     walk_entries _ _ _ c.positions_fall.ensures _ c.positions_past.ensures
-    sized _ c.bodies_fit.ensures (ap not c.if-not-bodies_fit.false) (ap not c.if-not-positions_fall.false) (ap not c.if-not-positions_past.false) _ c.entries_fit.ensures
+    sized _ c.bodies_fit.ensures (ap not c.if-not-bodies_fit.false) (ap not c.if-not-positions_fall.false) (ap not c.if-not-positions_past.false) _
+    c.entries_fit.ensures

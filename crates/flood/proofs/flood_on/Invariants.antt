@@ -8,7 +8,9 @@ use Rattle.flood.proofs.flood_on.Given as goal
 
 abbrev pub invariant-loop-head : goal.invariant-loop-head
 invariant-loop-head l =
-    (length l.work ≡ length l.initial.work) × ((start class : ℕ) → Flooding (kept (runs l.low l.high)) l.dim l.darts l.tables start class l.from l.tail l.from l.tail l.initial.work l.initial.work
+    (length l.work ≡ length l.initial.work)
+    × ((start class : ℕ) → Flooding (kept (runs l.low l.high)) l.dim l.darts l.tables start class l.from l.tail l.from l.tail l.initial.work
+    l.initial.work
     → Flooding (kept (runs l.low l.high)) l.dim l.darts l.tables start class l.from l.tail l.head l.end l.initial.work l.work)
 
 abbrev pub decreases-loop-head : goal.decreases-loop-head

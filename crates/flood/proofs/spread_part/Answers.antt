@@ -26,8 +26,12 @@ loop-i-preserved c =
     let S = c.loop-i.invariant.3 in
     let e = extended_class S.on p.3 p.5 in
     let inside = p.4 c.loop-i.i (omega arith) (between_yes _ _ _ (omega arith) (omega arith)) in
-    let one = spread_one S.on.queue (omega arith) inside (rw e p.5) (rw e p.6) c.enter_link-end.ensures.0 c.enter_link-end.ensures.1 in
-    (c.enter_link-end.auto.work ∙ c.loop-i.invariant.0, omega arith, omega arith, spread_join p.3 p.5 (λ j h. between_next c.args.from c.loop-i.i j c.loop-i.invariant.1) S one)
+    let one = spread_one S.on.queue (omega arith) inside (rw e p.5) (rw e p.6) c.enter_link-end.ensures.0 c.enter_link-end.ensures.1 in (
+      c.enter_link-end.auto.work ∙ c.loop-i.invariant.0,
+      omega arith,
+      omega arith,
+      spread_join p.3 p.5 (λ j h. between_next c.args.from c.loop-i.i j c.loop-i.invariant.1) S one,
+    )
 
 pub returns : goal.returns
 returns c =

@@ -6,7 +6,8 @@ use Rattle.flood.specs.Flood.{between, SpreadFrom}
 use Rattle.flood.proofs.spread_part.Given as goal
 
 abbrev pub invariant-loop-i : goal.invariant-loop-i
-invariant-loop-i l = (length l.work ≡ length l.initial.work) × (l.from ≤ l.i) × (l.i - l.from ≤ l.to - l.from) × SpreadFrom (between l.from l.i) l.dim l.darts l.tables l.dart l.tail l.end l.initial.work l.work
+invariant-loop-i l = (length l.work ≡ length l.initial.work) × (l.from ≤ l.i) × (l.i - l.from ≤ l.to - l.from)
+    × SpreadFrom (between l.from l.i) l.dim l.darts l.tables l.dart l.tail l.end l.initial.work l.work
 
 abbrev pub decreases-loop-i : goal.decreases-loop-i
 decreases-loop-i l = l.to - l.i

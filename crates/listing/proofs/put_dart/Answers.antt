@@ -10,4 +10,8 @@ returns c =
     let number = c.put_number-number.ensures in
     let links = c.put_links-links.ensures in
     let end = c.put.ensures in
-    record { text_put = wrote_then number.text_put (wrote_then links.text_put end); upper_bound = omega (arith, number.upper_bound, links.upper_bound, end.ends) }
+    record {
+      text_put = wrote_then number.text_put (wrote_then links.text_put end);
+      upper_bound =
+          omega (arith, number.upper_bound, links.upper_bound, end.ends);
+    }

@@ -7,13 +7,13 @@ use Rattle.pen.proofs.put_symbol.Goals as goal
 pub overflow_add-e : goal.overflow_add-e
 overflow_add-e c =
     let small : c.in-Index.e.0 < 4096 =
-        index_small _ c.in-Index.is c.requires.1 in
+    index_small _ c.in-Index.is c.requires.1 in
     omega (arith, small)
 
 pub put_number-requires : goal.put_number-requires
 put_number-requires c =
     let small : c.in-Index.e.0 < 4096 =
-        index_small _ c.in-Index.is c.requires.1 in
+    index_small _ c.in-Index.is c.requires.1 in
     (c.requires.0, omega arith, omega arith, omega (arith, small))
 
 pub returns-in-New : goal.returns-in-New

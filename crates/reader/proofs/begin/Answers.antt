@@ -40,18 +40,18 @@ returns-then-tables-size c =
 pub go_on-requires : goal.go_on-requires
 go_on-requires c =
     let dims : (1 ≤ c.args.first / 16 % 8) × (c.args.first / 16 % 8 ≤ 6) =
-        (omega arith, omega arith) in
+    (omega arith, omega arith) in
     let darts : let a = c.args in (1 ≤ a.first % 16 * 256 + a.second + 1) × (a.first % 16 * 256 + a.second + 1 ≤ 4096) =
-        (omega arith, omega arith) in
+    (omega arith, omega arith) in
     begin_ready _ _ _ _ _ _ dims darts _ c.blank.ensures c.requires
 
 pub returns : goal.returns
 unfolding headed dim_of
 returns c =
     let dims : (1 ≤ c.args.first / 16 % 8) × (c.args.first / 16 % 8 ≤ 6) =
-        (omega arith, omega arith) in
+    (omega arith, omega arith) in
     let darts : let a = c.args in (1 ≤ a.first % 16 * 256 + a.second + 1) × (a.first % 16 * 256 + a.second + 1 ≤ 4096) =
-        (omega arith, omega arith) in
+    (omega arith, omega arith) in
     let r = c.go_on.ensures in
     record {
       left = begin_walk _ _ _ _ _ _ _ _ _ _ (begin_blank _ _ _ _ c.blank.ensures) _ c.form_of-form.ensures r.left

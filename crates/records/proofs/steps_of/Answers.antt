@@ -24,7 +24,7 @@ overflow_cast-sum c = elem_Fits w16 w32 c.args.positions c.well_formed.0.0 c.loo
 pub overflow_add-sum : goal.overflow_add-sum
 overflow_add-sum c =
     let small : (i : ℕ) → get_or c.args.positions i 0 < 65536 =
-        λ i. (elem_Fits w16 w16 c.args.positions c.well_formed.0.0 i c.well_formed.0.1.1 tt).fits in
+    λ i. (elem_Fits w16 w16 c.args.positions c.well_formed.0.0 i c.well_formed.0.1.1 tt).fits in
     omega (arith, small c.loop-i.i)
 
 pub overflow_add-i : goal.overflow_add-i
@@ -36,9 +36,9 @@ loop-i-smaller c = omega arith
 pub loop-i-preserved : goal.loop-i-preserved
 loop-i-preserved c =
     let seven : length c.args.positions ≡ 7 =
-        c.well_formed.0.1.0.1 in
+    c.well_formed.0.1.0.1 in
     let small : (i : ℕ) → get_or c.args.positions i 0 < 65536 =
-        λ i. (elem_Fits w16 w16 c.args.positions c.well_formed.0.0 i c.well_formed.0.1.1 tt).fits in
+    λ i. (elem_Fits w16 w16 c.args.positions c.well_formed.0.0 i c.well_formed.0.1.1 tt).fits in
     let i = c.loop-i.i in
     let x = sum_on c.args.positions i (omega (arith, seven)) in
     (omega arith, omega (arith, small i), omega (arith, x))
@@ -46,5 +46,5 @@ loop-i-preserved c =
 pub returns : goal.returns
 returns c =
     let seven : length c.args.positions ≡ 7 =
-        c.well_formed.0.1.0.1 in
+    c.well_formed.0.1.0.1 in
     omega (arith, sum_over c.args.positions c.loop-i.i (omega (arith, seven)))

@@ -32,7 +32,10 @@ pub loop-i-preserved : goal.loop-i-preserved
 loop-i-preserved c =
     let e = c.partner_of-c.ensures in
     sought_next c.loop-i.invariant (omega arith)
-    (elim c.if-c-d.branch [ then-c-d+else-known w ↦ rw (← e, ← w.known.ensures) w.if-known.false | else-c-d w ↦ unknown_there _ _ _ _ _ _ e w.if-c-d.false c.requires.5 ])
+    (elim c.if-c-d.branch [
+      | then-c-d+else-known w ↦ rw (← e, ← w.known.ensures) w.if-known.false
+      | else-c-d w ↦ unknown_there _ _ _ _ _ _ e w.if-c-d.false c.requires.5
+    ])
 
 pub returns : goal.returns
 unfolding deducing_rank

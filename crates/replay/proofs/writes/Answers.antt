@@ -15,36 +15,36 @@ number_of-e-requires c =
 pub returns-then-e-position : goal.returns-then-e-position
 returns-then-e-position c =
     let looked : let a = c.args in Looked a.dim a.darts a.tables.now a.work.now a.j a.position c.dart_of-d.result c.partner_of-x.result c.number_of-e.result =
-        record { dart = c.dart_of-d.ensures; partner = c.partner_of-x.ensures; number = c.number_of-e.ensures } in
+    record { dart = c.dart_of-d.ensures; partner = c.partner_of-x.ensures; number = c.number_of-e.ensures } in
     writes_known looked c.requires.5 _ c.if-e-position.true
 
 pub deduced-requires : goal.deduced-requires
 deduced-requires c =
     let looked : let a = c.args in Looked a.dim a.darts a.tables.now a.work.now a.j a.position c.dart_of-d.result c.partner_of-x.result c.number_of-e.result =
-        record { dart = c.dart_of-d.ensures; partner = c.partner_of-x.ensures; number = c.number_of-e.ensures } in
+    record { dart = c.dart_of-d.ensures; partner = c.partner_of-x.ensures; number = c.number_of-e.ensures } in
     let p = c.requires in
     (p.0, p.1, p.2, omega arith, rw looked.dart p.4, writes_unknown looked p.5 c.if-e-position.false)
 
 pub returns-then-deduced : goal.returns-then-deduced
 returns-then-deduced c =
     let looked : let a = c.args in Looked a.dim a.darts a.tables.now a.work.now a.j a.position c.dart_of-d.result c.partner_of-x.result c.number_of-e.result =
-        record { dart = c.dart_of-d.ensures; partner = c.partner_of-x.ensures; number = c.number_of-e.ensures } in
+    record { dart = c.dart_of-d.ensures; partner = c.partner_of-x.ensures; number = c.number_of-e.ensures } in
     writes_deduced looked c.requires.5 _ c.if-e-position.false c.deduced.ensures c.if-deduced.true
 
 pub returns-then-x-d : goal.returns-then-x-d
 returns-then-x-d c =
     let looked : let a = c.args in Looked a.dim a.darts a.tables.now a.work.now a.j a.position c.dart_of-d.result c.partner_of-x.result c.number_of-e.result =
-        record { dart = c.dart_of-d.ensures; partner = c.partner_of-x.ensures; number = c.number_of-e.ensures } in
+    record { dart = c.dart_of-d.ensures; partner = c.partner_of-x.ensures; number = c.number_of-e.ensures } in
     writes_border looked c.requires.5 _ c.if-e-position.false c.deduced.ensures c.if-deduced.false c.if-x-d.true
 
 pub returns-then-count-e : goal.returns-then-count-e
 returns-then-count-e c =
     let looked : let a = c.args in Looked a.dim a.darts a.tables.now a.work.now a.j a.position c.dart_of-d.result c.partner_of-x.result c.number_of-e.result =
-        record { dart = c.dart_of-d.ensures; partner = c.partner_of-x.ensures; number = c.number_of-e.ensures } in
+    record { dart = c.dart_of-d.ensures; partner = c.partner_of-x.ensures; number = c.number_of-e.ensures } in
     writes_new looked c.requires.5 _ c.if-e-position.false c.deduced.ensures c.if-deduced.false c.if-x-d.false c.if-count-e.true
 
 pub returns : goal.returns
 returns c =
     let looked : let a = c.args in Looked a.dim a.darts a.tables.now a.work.now a.j a.position c.dart_of-d.result c.partner_of-x.result c.number_of-e.result =
-        record { dart = c.dart_of-d.ensures; partner = c.partner_of-x.ensures; number = c.number_of-e.ensures } in
+    record { dart = c.dart_of-d.ensures; partner = c.partner_of-x.ensures; number = c.number_of-e.ensures } in
     writes_index looked c.requires.5 _ c.if-e-position.false c.deduced.ensures c.if-deduced.false c.if-x-d.false c.if-count-e.false

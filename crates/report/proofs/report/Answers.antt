@@ -24,7 +24,7 @@ returns-then-built-ne0 c =
 pub span-first-requires : goal.span-first-requires
 span-first-requires c =
     let tabled : let a = c.args in Tabled a.form a.dim a.darts a.tables.now a.work.now =
-        let a = c.args in
+    let a = c.args in
     let e = c.misfit-sizes.ensures in
     report_tabled a.form a.dim a.darts a.tables.now a.work.now e c.if-sizes-ne0.false c.misbuilt-built.ensures c.if-built-ne0.false in
     let T = tabled in (T.limits, T.valid, T.room)
@@ -32,7 +32,7 @@ span-first-requires c =
 pub misjoined-joined-requires : goal.misjoined-joined-requires
 misjoined-joined-requires c =
     let tabled : let a = c.args in Tabled a.form a.dim a.darts a.tables.now a.work.now =
-        let a = c.args in
+    let a = c.args in
     let e = c.misfit-sizes.ensures in
     report_tabled a.form a.dim a.darts a.tables.now a.work.now e c.if-sizes-ne0.false c.misbuilt-built.ensures c.if-built-ne0.false in
     let S = c.span-first.ensures.0 in
@@ -41,7 +41,7 @@ misjoined-joined-requires c =
 pub overflow_mul-darts : goal.overflow_mul-darts
 overflow_mul-darts c =
     let tabled : let a = c.args in Tabled a.form a.dim a.darts a.tables.now a.work.now =
-        let a = c.args in
+    let a = c.args in
     let e = c.misfit-sizes.ensures in
     report_tabled a.form a.dim a.darts a.tables.now a.work.now e c.if-sizes-ne0.false c.misbuilt-built.ensures c.if-built-ne0.false in
     omega (arith, tabled.limits.darts.1)
@@ -52,7 +52,7 @@ blank-requires c = omega (arith, c.span-first.ensures.0.queue.room)
 pub returns-then-joined-ne0 : goal.returns-then-joined-ne0
 returns-then-joined-ne0 c =
     let tabled : let a = c.args in Tabled a.form a.dim a.darts a.tables.now a.work.now =
-        let a = c.args in
+    let a = c.args in
     let e = c.misfit-sizes.ensures in
     report_tabled a.form a.dim a.darts a.tables.now a.work.now e c.if-sizes-ne0.false c.misbuilt-built.ensures c.if-built-ne0.false in
     let k = c.span-first.ensures in
@@ -62,7 +62,7 @@ returns-then-joined-ne0 c =
 pub span_rest-all-requires : goal.span_rest-all-requires
 span_rest-all-requires c =
     let tabled : let a = c.args in Tabled a.form a.dim a.darts a.tables.now a.work.now =
-        let a = c.args in
+    let a = c.args in
     let e = c.misfit-sizes.ensures in
     report_tabled a.form a.dim a.darts a.tables.now a.work.now e c.if-sizes-ne0.false c.misbuilt-built.ensures c.if-built-ne0.false in
     let T = tabled in
@@ -71,7 +71,7 @@ span_rest-all-requires c =
 pub counted-requires : goal.counted-requires
 counted-requires c =
     let tabled : let a = c.args in Tabled a.form a.dim a.darts a.tables.now a.work.now =
-        let a = c.args in
+    let a = c.args in
     let e = c.misfit-sizes.ensures in
     report_tabled a.form a.dim a.darts a.tables.now a.work.now e c.if-sizes-ne0.false c.misbuilt-built.ensures c.if-built-ne0.false in
     let T = tabled in
@@ -80,7 +80,7 @@ counted-requires c =
 pub returns : goal.returns
 returns c =
     let tabled : let a = c.args in Tabled a.form a.dim a.darts a.tables.now a.work.now =
-        let a = c.args in
+    let a = c.args in
     let e = c.misfit-sizes.ensures in
     report_tabled a.form a.dim a.darts a.tables.now a.work.now e c.if-sizes-ne0.false c.misbuilt-built.ensures c.if-built-ne0.false in
     let k = c.span-first.ensures in

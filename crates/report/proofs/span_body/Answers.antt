@@ -41,8 +41,13 @@ pub loop-head-smaller : goal.loop-head-smaller
 loop-head-smaller c = omega (arith, c.loop-head-test.true, c.loop-head.invariant.1.queue.short)
 
 pub loop-head-preserved : goal.loop-head-preserved
-loop-head-preserved c =
-    (c.span_step-s.auto.work ∙ c.loop-head.invariant.0, c.span_step-s.ensures.0, c.span_step-s.ensures.1 ∙ c.loop-head.invariant.2, c.span_step-s.ensures.2 ∙ c.loop-head.invariant.3)
+loop-head-preserved c = (
+  c.span_step-s.auto.work ∙ c.loop-head.invariant.0,
+  c.span_step-s.ensures.0,
+  c.span_step-s.ensures.1 ∙ c.loop-head.invariant.2,
+  c.span_step-s.ensures.2
+      ∙ c.loop-head.invariant.3,
+)
 
 pub returns : goal.returns
 returns c =

@@ -7,7 +7,8 @@ use Rattle.report.specs.Spans.{Spun}
 use Rattle.report.proofs.span_body.Given as goal
 
 abbrev pub invariant-loop-head : goal.invariant-loop-head
-invariant-loop-head l = (length l.work ≡ length l.initial.work) × Spun l.dim l.darts l.tables l.head l.s l.work × (l.s.next ≡ l.initial.s.next) × (drop (2 * l.darts) l.work ≡ drop (2 * l.darts) l.initial.work)
+invariant-loop-head l = (length l.work ≡ length l.initial.work) × Spun l.dim l.darts l.tables l.head l.s l.work × (l.s.next ≡ l.initial.s.next)
+    × (drop (2 * l.darts) l.work ≡ drop (2 * l.darts) l.initial.work)
 
 abbrev pub decreases-loop-head : goal.decreases-loop-head
 decreases-loop-head l = l.darts - l.head

@@ -6,7 +6,8 @@ use Rattle.report.specs.Spans.{Spanned}
 use Rattle.report.proofs.span_rest.Given as goal
 
 abbrev pub invariant-loop-s : goal.invariant-loop-s
-invariant-loop-s l = (length l.work ≡ length l.initial.work) × Spanned l.dim l.darts l.tables l.s l.work × (drop (2 * l.darts) l.work ≡ drop (2 * l.darts) l.initial.work)
+invariant-loop-s l = (length l.work ≡ length l.initial.work) × Spanned l.dim l.darts l.tables l.s l.work
+    × (drop (2 * l.darts) l.work ≡ drop (2 * l.darts) l.initial.work)
 
 abbrev pub decreases-loop-s : goal.decreases-loop-s
 decreases-loop-s l = l.darts - l.s.next

@@ -30,7 +30,7 @@ bounds-tables-place c =
 pub overflow_cast-x : goal.overflow_cast-x
 overflow_cast-x c =
     let read_below : let a = c.args in get_or a.tables.now c.place.result 0 < a.darts =
-        let p = c.requires in
+    let p = c.requires in
     let e = ap (λ (x : ℕ). get_or c.args.tables.now x 0) c.place.ensures in
     entry_below _ _ _ c.args.work.now _ _ _ p.0 p.3 c.loop-d-test.true e p.1 in
     omega (arith, read_below)
@@ -38,7 +38,7 @@ overflow_cast-x c =
 pub overflow_add-free : goal.overflow_add-free
 overflow_add-free c =
     let few : (c.loop-d.alike < 65535) × (c.loop-d.free < 65535) =
-        let a = c.args in
+    let a = c.args in
     let p = c.requires in
     let (x, y) = counted_le c.loop-d.invariant.1 in
     let r : a.rank ≤ 6 = omega (arith, p.3, p.0.dims.1) in
@@ -55,7 +55,7 @@ bounds-work-d c = omega arith
 pub offset_bounds-work-x : goal.offset_bounds-work-x
 offset_bounds-work-x c =
     let read_below : let a = c.args in get_or a.tables.now c.place.result 0 < a.darts =
-        let p = c.requires in
+    let p = c.requires in
     let e = ap (λ (x : ℕ). get_or c.args.tables.now x 0) c.place.ensures in
     entry_below _ _ _ c.args.work.now _ _ _ p.0 p.3 c.loop-d-test.true e p.1 in
     omega (arith, read_below)
@@ -63,7 +63,7 @@ offset_bounds-work-x c =
 pub bounds-work-x : goal.bounds-work-x
 bounds-work-x c =
     let read_below : let a = c.args in get_or a.tables.now c.place.result 0 < a.darts =
-        let p = c.requires in
+    let p = c.requires in
     let e = ap (λ (x : ℕ). get_or c.args.tables.now x 0) c.place.ensures in
     entry_below _ _ _ c.args.work.now _ _ _ p.0 p.3 c.loop-d-test.true e p.1 in
     omega (arith, read_below)
@@ -71,7 +71,7 @@ bounds-work-x c =
 pub overflow_add-alike : goal.overflow_add-alike
 overflow_add-alike c =
     let few : (c.loop-d.alike < 65535) × (c.loop-d.free < 65535) =
-        let a = c.args in
+    let a = c.args in
     let p = c.requires in
     let (x, y) = counted_le c.loop-d.invariant.1 in
     let r : a.rank ≤ 6 = omega (arith, p.3, p.0.dims.1) in
@@ -93,8 +93,16 @@ loop-d-preserved c =
     let m = c.loop-d.invariant.1 in (
       omega arith,
       record {
-        near = elim c.if-work-d.branch [ then-work-d w ↦ w.alike-is ∙ alike_yes _ _ _ _ _ c.loop-d.d _ p.0 p.3 h e c.loop-d.alike w.if-work-d.true m.near | else-work-d w ↦ w.alike-is ∙ alike_no _ _ _ _ _ c.loop-d.d _ p.0 p.3 h e c.loop-d.alike w.if-work-d.false m.near ];
-        still = elim c.if-x-d.branch [ then-x-d w ↦ w.free-is ∙ free_yes _ _ _ c.args.work.now _ c.loop-d.d _ p.0 p.3 h e c.loop-d.free w.if-x-d.true m.still | else-x-d w ↦ w.free-is ∙ free_no _ _ _ c.args.work.now _ c.loop-d.d _ p.0 p.3 h e c.loop-d.free w.if-x-d.false m.still ];
+        near = elim c.if-work-d.branch [
+          | then-work-d w ↦ w.alike-is ∙ alike_yes _ _ _ _ _ c.loop-d.d _ p.0 p.3 h e c.loop-d.alike w.if-work-d.true m.near
+          | else-work-d w ↦ w.alike-is ∙ alike_no _ _ _ _ _ c.loop-d.d _ p.0 p.3 h e c.loop-d.alike w.if-work-d.false m.near
+        ];
+        still = elim c.if-x-d.branch [
+          | then-x-d w ↦ w.free-is
+              ∙ free_yes _ _ _ c.args.work.now _ c.loop-d.d _ p.0 p.3 h e c.loop-d.free w.if-x-d.true m.still
+          | else-x-d w ↦ w.free-is
+              ∙ free_no _ _ _ c.args.work.now _ c.loop-d.d _ p.0 p.3 h e c.loop-d.free w.if-x-d.false m.still
+        ];
       },
     )
 

@@ -7,7 +7,8 @@ use Rattle.runs.proofs.Runs.{RunGoing, passes_left}
 use Rattle.runs.proofs.walk_on.Given as goal
 
 abbrev pub invariant-loop-at : goal.invariant-loop-at
-invariant-loop-at l = RunGoing l.dim l.darts (stand_in l.form l.bodies l.count l.initial.positions) l.initial.cursor l.initial.tables l.page l.at l.positions l.cursor l.tables × (length l.positions ≡ length l.initial.positions)
+invariant-loop-at l = RunGoing l.dim l.darts (stand_in l.form l.bodies l.count l.initial.positions) l.initial.cursor l.initial.tables l.page l.at
+    l.positions l.cursor l.tables × (length l.positions ≡ length l.initial.positions)
 
 abbrev pub decreases-loop-at : goal.decreases-loop-at
 decreases-loop-at l = passes_left l.dim l.darts l.at l.positions

@@ -8,6 +8,6 @@ use Rattle.stored.proofs.stored_session.Goals as goal
 pub returns : goal.returns
 returns c =
     let seven-given : length c.args.s.positions ≡ 7 =
-        c.well_formed.0.1.1.1.1.1.1.0.1.0.1 in
+    c.well_formed.0.1.1.1.1.1.1.0.1.0.1 in
     stored_by c.args.s seven-given _ c.stored_positions-p.ensures _ _ _ _
     c.state_number.ensures c.refusal_number.ensures c.refusal_place.ensures c.form_number-f.ensures

@@ -10,4 +10,8 @@ returns c =
     let a = c.args in
     let named = c.put_named-end.ensures in
     let end = c.put.ensures in
-    record { text_put = wrote_same (wrote_then named.text_put end) (append_assoc a.word.now (spaced a.n) line_end); upper_bound = omega (arith, named.upper_bound, end.ends) }
+    record {
+      text_put = wrote_same (wrote_then named.text_put end) (append_assoc a.word.now (spaced a.n) line_end);
+      upper_bound =
+          omega (arith, named.upper_bound, end.ends);
+    }

@@ -15,4 +15,8 @@ returns c =
     let end = c.put.ensures in
     let after = append_assoc a.next.now (spaced a.m) line_end in
     let whole = append_assoc a.word.now (spaced a.n) _ ∙ ap (λ (l : List ℕ). a.word.now ++ (spaced a.n ++ l)) after in
-    record { text_put = wrote_same (wrote_then first.text_put (wrote_then second.text_put end)) whole; upper_bound = omega (arith, first.upper_bound, second.upper_bound, end.ends) }
+    record {
+      text_put = wrote_same (wrote_then first.text_put (wrote_then second.text_put end)) whole;
+      upper_bound =
+          omega (arith, first.upper_bound, second.upper_bound, end.ends);
+    }

@@ -35,35 +35,43 @@ pub loop-j-smaller-then-count-positions : goal.loop-j-smaller-then-count-positio
 loop-j-smaller-then-count-positions c = omega arith
 
 pub loop-j-preserved-then-count-positions : goal.loop-j-preserved-then-count-positions
-loop-j-preserved-then-count-positions c =
-    (c.loop-j.invariant.0, c.loop-j.invariant.1, omega arith, emptied_next c.loop-j.count c.loop-j.positions c.loop-j.j c.loop-j.invariant.3 c.if-count-positions.true, c.loop-j.invariant.4)
+loop-j-preserved-then-count-positions c = (
+  c.loop-j.invariant.0,
+  c.loop-j.invariant.1,
+  omega arith,
+  emptied_next c.loop-j.count c.loop-j.positions c.loop-j.j c.loop-j.invariant.3
+      c.if-count-positions.true,
+  c.loop-j.invariant.4,
+)
 
 pub step-s-requires : goal.step-s-requires
 step-s-requires c =
     let served : Lowest c.args.dim c.loop-j.count c.loop-j.positions c.loop-j.j =
-        record { ranked = omega arith; lower = c.loop-j.invariant.3; some = c.if-count-positions.false } in
+    record { ranked = omega arith; lower = c.loop-j.invariant.3; some = c.if-count-positions.false } in
     let rooted : let a = c.args in Rooted a.dim a.darts a.tables.now c.requires.4.root =
-        rooted_by c.requires.0 c.requires.1 c.requires.4.numbered in
-    let stands : let a = c.args in let U = c.requires.4 in Writing U.form a.dim a.darts a.tables.now U.root c.loop-j.count c.loop-j.positions a.start U.first c.loop-j.last U.lent c.loop-j.out =
-        let U = c.requires.4 in c.loop-j.invariant.4.writing U.form U.root U.first U.lent U.numbered U.writing in
+    rooted_by c.requires.0 c.requires.1 c.requires.4.numbered in
+    let stands : let a = c.args in let U = c.requires.4 in Writing U.form a.dim a.darts a.tables.now U.root c.loop-j.count c.loop-j.positions a.start
+    U.first c.loop-j.last U.lent c.loop-j.out =
+    let U = c.requires.4 in c.loop-j.invariant.4.writing U.form U.root U.first U.lent U.numbered U.writing in
     let heads : let a = c.args in AtHead a.darts a.work.now c.loop-j.count (get_or c.loop-j.positions c.loop-j.j 0) =
-        replay_served rooted c.requires.4.numbered stands.replaying c.loop-j.j served c.requires.2 in
+    replay_served rooted c.requires.4.numbered stands.replaying c.loop-j.j served c.requires.2 in
     let p = c.requires in
     (p.0, p.1, omega arith, c.loop-j.invariant.1 ∙ p.3, heads)
 
 pub put_yield-last-requires : goal.put_yield-last-requires
 put_yield-last-requires c =
     let served : Lowest c.args.dim c.loop-j.count c.loop-j.positions c.loop-j.j =
-        record { ranked = omega arith; lower = c.loop-j.invariant.3; some = c.if-count-positions.false } in
+    record { ranked = omega arith; lower = c.loop-j.invariant.3; some = c.if-count-positions.false } in
     let rooted : let a = c.args in Rooted a.dim a.darts a.tables.now c.requires.4.root =
-        rooted_by c.requires.0 c.requires.1 c.requires.4.numbered in
-    let stands : let a = c.args in let U = c.requires.4 in Writing U.form a.dim a.darts a.tables.now U.root c.loop-j.count c.loop-j.positions a.start U.first c.loop-j.last U.lent c.loop-j.out =
-        let U = c.requires.4 in c.loop-j.invariant.4.writing U.form U.root U.first U.lent U.numbered U.writing in
+    rooted_by c.requires.0 c.requires.1 c.requires.4.numbered in
+    let stands : let a = c.args in let U = c.requires.4 in Writing U.form a.dim a.darts a.tables.now U.root c.loop-j.count c.loop-j.positions a.start
+    U.first c.loop-j.last U.lent c.loop-j.out =
+    let U = c.requires.4 in c.loop-j.invariant.4.writing U.form U.root U.first U.lent U.numbered U.writing in
     let heads : let a = c.args in AtHead a.darts a.work.now c.loop-j.count (get_or c.loop-j.positions c.loop-j.j 0) =
-        replay_served rooted c.requires.4.numbered stands.replaying c.loop-j.j served c.requires.2 in
-    let writes : let a = c.args in c.step-s.result.written ≡ writes_in by_dart a.dim a.darts a.tables.now a.work.now c.loop-j.count c.loop-j.j (get_or c.loop-j.positions c.loop-j.j 0) =
-        ap (λ (r : Replayed). r.written) c.step-s.ensures.0 in
-    (
+    replay_served rooted c.requires.4.numbered stands.replaying c.loop-j.j served c.requires.2 in
+    let writes : let a = c.args in c.step-s.result.written ≡ writes_in by_dart a.dim a.darts a.tables.now a.work.now c.loop-j.count c.loop-j.j
+    (get_or c.loop-j.positions c.loop-j.j 0) =
+    ap (λ (r : Replayed). r.written) c.step-s.ensures.0 in (
       writing_fits rooted c.requires.4.numbered stands c.requires.4.room,
       yield_fits _ _ _ _ _ _ _ heads.count _ writes,
     )
@@ -71,14 +79,16 @@ put_yield-last-requires c =
 pub loop-j-smaller-then-next-count : goal.loop-j-smaller-then-next-count
 loop-j-smaller-then-next-count c =
     let served : Lowest c.args.dim c.loop-j.count c.loop-j.positions c.loop-j.j =
-        record { ranked = omega arith; lower = c.loop-j.invariant.3; some = c.if-count-positions.false } in
+    record { ranked = omega arith; lower = c.loop-j.invariant.3; some = c.if-count-positions.false } in
     let rooted : let a = c.args in Rooted a.dim a.darts a.tables.now c.requires.4.root =
-        rooted_by c.requires.0 c.requires.1 c.requires.4.numbered in
-    let stands : let a = c.args in let U = c.requires.4 in Writing U.form a.dim a.darts a.tables.now U.root c.loop-j.count c.loop-j.positions a.start U.first c.loop-j.last U.lent c.loop-j.out =
-        let U = c.requires.4 in c.loop-j.invariant.4.writing U.form U.root U.first U.lent U.numbered U.writing in
-    let stepped : let a = c.args in (enough a.dim a.darts - sum c.step-s.new.positions < enough a.dim a.darts - sum c.loop-j.positions) × WentOn a.dim a.darts a.tables.now a.work.now a.from a.positions.now a.start a.pen a.out.now c.step-s.result.count c.step-s.new.positions c.put_yield-last.result c.put_yield-last.new.out =
-        let e = c.step-s.ensures in
-    (
+    rooted_by c.requires.0 c.requires.1 c.requires.4.numbered in
+    let stands : let a = c.args in let U = c.requires.4 in Writing U.form a.dim a.darts a.tables.now U.root c.loop-j.count c.loop-j.positions a.start
+    U.first c.loop-j.last U.lent c.loop-j.out =
+    let U = c.requires.4 in c.loop-j.invariant.4.writing U.form U.root U.first U.lent U.numbered U.writing in
+    let stepped : let a = c.args in (enough a.dim a.darts - sum c.step-s.new.positions < enough a.dim a.darts - sum c.loop-j.positions)
+    × WentOn a.dim a.darts a.tables.now a.work.now a.from a.positions.now a.start a.pen a.out.now c.step-s.result.count c.step-s.new.positions
+    c.put_yield-last.result c.put_yield-last.new.out =
+    let e = c.step-s.ensures in (
       walking_less rooted stands.replaying.walking c.loop-j.j served e.1,
       went_goes c.requires.0 c.requires.1 c.loop-j.invariant.4 c.loop-j.j served _ e.0 e.1 c.put_yield-last.ensures,
     ) in
@@ -87,14 +97,16 @@ loop-j-smaller-then-next-count c =
 pub loop-j-preserved-then-next-count : goal.loop-j-preserved-then-next-count
 loop-j-preserved-then-next-count c =
     let served : Lowest c.args.dim c.loop-j.count c.loop-j.positions c.loop-j.j =
-        record { ranked = omega arith; lower = c.loop-j.invariant.3; some = c.if-count-positions.false } in
+    record { ranked = omega arith; lower = c.loop-j.invariant.3; some = c.if-count-positions.false } in
     let rooted : let a = c.args in Rooted a.dim a.darts a.tables.now c.requires.4.root =
-        rooted_by c.requires.0 c.requires.1 c.requires.4.numbered in
-    let stands : let a = c.args in let U = c.requires.4 in Writing U.form a.dim a.darts a.tables.now U.root c.loop-j.count c.loop-j.positions a.start U.first c.loop-j.last U.lent c.loop-j.out =
-        let U = c.requires.4 in c.loop-j.invariant.4.writing U.form U.root U.first U.lent U.numbered U.writing in
-    let stepped : let a = c.args in (enough a.dim a.darts - sum c.step-s.new.positions < enough a.dim a.darts - sum c.loop-j.positions) × WentOn a.dim a.darts a.tables.now a.work.now a.from a.positions.now a.start a.pen a.out.now c.step-s.result.count c.step-s.new.positions c.put_yield-last.result c.put_yield-last.new.out =
-        let e = c.step-s.ensures in
-    (
+    rooted_by c.requires.0 c.requires.1 c.requires.4.numbered in
+    let stands : let a = c.args in let U = c.requires.4 in Writing U.form a.dim a.darts a.tables.now U.root c.loop-j.count c.loop-j.positions a.start
+    U.first c.loop-j.last U.lent c.loop-j.out =
+    let U = c.requires.4 in c.loop-j.invariant.4.writing U.form U.root U.first U.lent U.numbered U.writing in
+    let stepped : let a = c.args in (enough a.dim a.darts - sum c.step-s.new.positions < enough a.dim a.darts - sum c.loop-j.positions)
+    × WentOn a.dim a.darts a.tables.now a.work.now a.from a.positions.now a.start a.pen a.out.now c.step-s.result.count c.step-s.new.positions
+    c.put_yield-last.result c.put_yield-last.new.out =
+    let e = c.step-s.ensures in (
       walking_less rooted stands.replaying.walking c.loop-j.j served e.1,
       went_goes c.requires.0 c.requires.1 c.loop-j.invariant.4 c.loop-j.j served _ e.0 e.1 c.put_yield-last.ensures,
     ) in
@@ -103,14 +115,16 @@ loop-j-preserved-then-next-count c =
 pub loop-j-smaller : goal.loop-j-smaller
 loop-j-smaller c =
     let served : Lowest c.args.dim c.loop-j.count c.loop-j.positions c.loop-j.j =
-        record { ranked = omega arith; lower = c.loop-j.invariant.3; some = c.if-count-positions.false } in
+    record { ranked = omega arith; lower = c.loop-j.invariant.3; some = c.if-count-positions.false } in
     let rooted : let a = c.args in Rooted a.dim a.darts a.tables.now c.requires.4.root =
-        rooted_by c.requires.0 c.requires.1 c.requires.4.numbered in
-    let stands : let a = c.args in let U = c.requires.4 in Writing U.form a.dim a.darts a.tables.now U.root c.loop-j.count c.loop-j.positions a.start U.first c.loop-j.last U.lent c.loop-j.out =
-        let U = c.requires.4 in c.loop-j.invariant.4.writing U.form U.root U.first U.lent U.numbered U.writing in
-    let stepped : let a = c.args in (enough a.dim a.darts - sum c.step-s.new.positions < enough a.dim a.darts - sum c.loop-j.positions) × WentOn a.dim a.darts a.tables.now a.work.now a.from a.positions.now a.start a.pen a.out.now c.step-s.result.count c.step-s.new.positions c.put_yield-last.result c.put_yield-last.new.out =
-        let e = c.step-s.ensures in
-    (
+    rooted_by c.requires.0 c.requires.1 c.requires.4.numbered in
+    let stands : let a = c.args in let U = c.requires.4 in Writing U.form a.dim a.darts a.tables.now U.root c.loop-j.count c.loop-j.positions a.start
+    U.first c.loop-j.last U.lent c.loop-j.out =
+    let U = c.requires.4 in c.loop-j.invariant.4.writing U.form U.root U.first U.lent U.numbered U.writing in
+    let stepped : let a = c.args in (enough a.dim a.darts - sum c.step-s.new.positions < enough a.dim a.darts - sum c.loop-j.positions)
+    × WentOn a.dim a.darts a.tables.now a.work.now a.from a.positions.now a.start a.pen a.out.now c.step-s.result.count c.step-s.new.positions
+    c.put_yield-last.result c.put_yield-last.new.out =
+    let e = c.step-s.ensures in (
       walking_less rooted stands.replaying.walking c.loop-j.j served e.1,
       went_goes c.requires.0 c.requires.1 c.loop-j.invariant.4 c.loop-j.j served _ e.0 e.1 c.put_yield-last.ensures,
     ) in
@@ -119,18 +133,19 @@ loop-j-smaller c =
 pub loop-j-preserved : goal.loop-j-preserved
 loop-j-preserved c =
     let served : Lowest c.args.dim c.loop-j.count c.loop-j.positions c.loop-j.j =
-        record { ranked = omega arith; lower = c.loop-j.invariant.3; some = c.if-count-positions.false } in
+    record { ranked = omega arith; lower = c.loop-j.invariant.3; some = c.if-count-positions.false } in
     let rooted : let a = c.args in Rooted a.dim a.darts a.tables.now c.requires.4.root =
-        rooted_by c.requires.0 c.requires.1 c.requires.4.numbered in
-    let stands : let a = c.args in let U = c.requires.4 in Writing U.form a.dim a.darts a.tables.now U.root c.loop-j.count c.loop-j.positions a.start U.first c.loop-j.last U.lent c.loop-j.out =
-        let U = c.requires.4 in c.loop-j.invariant.4.writing U.form U.root U.first U.lent U.numbered U.writing in
-    let stepped : let a = c.args in (enough a.dim a.darts - sum c.step-s.new.positions < enough a.dim a.darts - sum c.loop-j.positions) × WentOn a.dim a.darts a.tables.now a.work.now a.from a.positions.now a.start a.pen a.out.now c.step-s.result.count c.step-s.new.positions c.put_yield-last.result c.put_yield-last.new.out =
-        let e = c.step-s.ensures in
-    (
+    rooted_by c.requires.0 c.requires.1 c.requires.4.numbered in
+    let stands : let a = c.args in let U = c.requires.4 in Writing U.form a.dim a.darts a.tables.now U.root c.loop-j.count c.loop-j.positions a.start
+    U.first c.loop-j.last U.lent c.loop-j.out =
+    let U = c.requires.4 in c.loop-j.invariant.4.writing U.form U.root U.first U.lent U.numbered U.writing in
+    let stepped : let a = c.args in (enough a.dim a.darts - sum c.step-s.new.positions < enough a.dim a.darts - sum c.loop-j.positions)
+    × WentOn a.dim a.darts a.tables.now a.work.now a.from a.positions.now a.start a.pen a.out.now c.step-s.result.count c.step-s.new.positions
+    c.put_yield-last.result c.put_yield-last.new.out =
+    let e = c.step-s.ensures in (
       walking_less rooted stands.replaying.walking c.loop-j.j served e.1,
       went_goes c.requires.0 c.requires.1 c.loop-j.invariant.4 c.loop-j.j served _ e.0 e.1 c.put_yield-last.ensures,
-    ) in
-    (
+    ) in (
       search rules,
       search rules,
       c.loop-j.invariant.2,
@@ -141,9 +156,10 @@ loop-j-preserved c =
 pub returns : goal.returns
 returns c =
     let rooted : let a = c.args in Rooted a.dim a.darts a.tables.now c.requires.4.root =
-        rooted_by c.requires.0 c.requires.1 c.requires.4.numbered in
-    let stands : let a = c.args in let U = c.requires.4 in Writing U.form a.dim a.darts a.tables.now U.root c.loop-j.count c.loop-j.positions a.start U.first c.loop-j.last U.lent c.loop-j.out =
-        let U = c.requires.4 in c.loop-j.invariant.4.writing U.form U.root U.first U.lent U.numbered U.writing in
+    rooted_by c.requires.0 c.requires.1 c.requires.4.numbered in
+    let stands : let a = c.args in let U = c.requires.4 in Writing U.form a.dim a.darts a.tables.now U.root c.loop-j.count c.loop-j.positions a.start
+    U.first c.loop-j.last U.lent c.loop-j.out =
+    let U = c.requires.4 in c.loop-j.invariant.4.writing U.form U.root U.first U.lent U.numbered U.writing in
     let e : c.loop-j.j ≡ c.args.dim + 1 = omega (arith, c.loop-j.invariant.2) in
     let o = all_left rooted c.requires.4.numbered stands c.loop-j.j c.loop-j.invariant.3 (omega arith) in
     (rw o c.loop-j.invariant.4, rw (o, ← e) c.loop-j.invariant.3)

@@ -18,8 +18,7 @@ use Rattle.writer.proofs.put_symbols.Goals as goal
 pub loop-due-init : goal.loop-due-init
 loop-due-init c =
     let rooted : let a = c.args in (root : ℕ) → NumberedFrom a.form a.dim a.darts a.tables.now root a.work.now → Rooted a.dim a.darts a.tables.now root =
-        λ root q. rooted_by c.requires.0 c.requires.1 q in
-    (
+    λ root q. rooted_by c.requires.0 c.requires.1 q in (
       refl,
       refl,
       λ e. omega (arith, c.requires.0.darts.0),
@@ -32,7 +31,7 @@ bounds-positions-0 c = omega arith
 pub overflow_add-from : goal.overflow_add-from
 overflow_add-from c =
     let below : get_or c.loop-due.positions 0 0 < c.args.darts =
-        c.loop-due.invariant.2 c.loop-due-test.true in
+    c.loop-due.invariant.2 c.loop-due-test.true in
     omega (arith, below, c.requires.0.darts.1)
 
 pub put_body-last-requires : goal.put_body-last-requires
@@ -51,18 +50,20 @@ bounds-positions-0-in-loop-due c = omega arith
 pub loop-due-smaller : goal.loop-due-smaller
 loop-due-smaller c =
     let below : get_or c.loop-due.positions 0 0 < c.args.darts =
-        c.loop-due.invariant.2 c.loop-due-test.true in
+    c.loop-due.invariant.2 c.loop-due-test.true in
     omega (arith, below, c.put_body-last.ensures.0.grows)
 
 pub loop-due-preserved : goal.loop-due-preserved
 loop-due-preserved c =
     let rooted : let a = c.args in (root : ℕ) → NumberedFrom a.form a.dim a.darts a.tables.now root a.work.now → Rooted a.dim a.darts a.tables.now root =
-        λ root q. rooted_by c.requires.0 c.requires.1 q in
-    let stands : let a = c.args in let ps = c.put_body-last.new.positions in (root : ℕ) → NumberedFrom a.form a.dim a.darts a.tables.now root a.work.now → Writing a.form a.dim a.darts a.tables.now root (get_or ps 0 0) ps a.start a.pen c.put_body-last.result a.out.now c.put_body-last.new.out =
-        λ root q. let a = c.args in
+    λ root q. rooted_by c.requires.0 c.requires.1 q in
+    let stands : let a = c.args in let ps = c.put_body-last.new.positions in (root : ℕ) → NumberedFrom a.form a.dim a.darts a.tables.now root a.work.now
+    → Writing a.form a.dim a.darts a.tables.now root (get_or ps 0 0) ps a.start a.pen c.put_body-last.result a.out.now c.put_body-last.new.out =
+    λ root q. let a = c.args in
     c.put_body-last.ensures.0.writing a.form root a.pen a.out.now q ((c.loop-due.invariant.3 root q).0 c.loop-due-test.true) in
-    let answered : let a = c.args in (r : Bool) → c.body_due-due.result ≡ r → body_due a.form a.dim a.darts (a.dim + 1) (get_or c.put_body-last.new.positions 0 0) ≡ r =
-        λ r e. sym c.body_due-due.ensures ∙ e in
+    let answered : let a = c.args in (r : Bool) → c.body_due-due.result ≡ r
+    → body_due a.form a.dim a.darts (a.dim + 1) (get_or c.put_body-last.new.positions 0 0) ≡ r =
+    λ r e. sym c.body_due-due.ensures ∙ e in
     let a = c.args in
     let e = c.put_body-last.ensures.1 in (
       search rules,

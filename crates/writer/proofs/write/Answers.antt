@@ -20,27 +20,29 @@ returns-then-c-ne0 c =
 pub emit-length-requires : goal.emit-length-requires
 emit-length-requires c =
     let numbered : let a = c.args in NumberedFrom a.form a.dim a.darts a.tables.now a.root c.check-c.new.work =
-        write_numbered _ _ _ _ _ c.args.work.now _ c.check-c.ensures.0 c.if-c-ne0.false _ c.check-c.ensures.1 in
+    write_numbered _ _ _ _ _ c.args.work.now _ c.check-c.ensures.0 c.if-c-ne0.false _ c.check-c.ensures.1 in
     let (l, v, w, h) = write_limits _ _ _ _ _ c.args.work.now _ c.check-c.ensures.0 c.if-c-ne0.false in
     (l, v, omega arith, (c.args.root, numbered))
 
 pub overflow_cast-result : goal.overflow_cast-result
 overflow_cast-result c =
     let numbered : let a = c.args in NumberedFrom a.form a.dim a.darts a.tables.now a.root c.check-c.new.work =
-        write_numbered _ _ _ _ _ c.args.work.now _ c.check-c.ensures.0 c.if-c-ne0.false _ c.check-c.ensures.1 in
-    let put : let a = c.args in let s = stream a.form by_dart a.dim a.darts a.tables.now a.root in (c.emit-length.result ≡ length s) × (c.emit-length.new.out ≡ penned s a.start a.out.now) =
-        c.emit-length.ensures c.args.root numbered in
+    write_numbered _ _ _ _ _ c.args.work.now _ c.check-c.ensures.0 c.if-c-ne0.false _ c.check-c.ensures.1 in
+    let put : let a = c.args in let s = stream a.form by_dart a.dim a.darts a.tables.now a.root in (c.emit-length.result ≡ length s)
+    × (c.emit-length.new.out ≡ penned s a.start a.out.now) =
+    c.emit-length.ensures c.args.root numbered in
     let short : c.emit-length.result ≤ 50178 =
-        omega (arith, put.0, write_longest _ _ _ _ _ c.args.work.now _ c.check-c.ensures.0 c.if-c-ne0.false) in
+    omega (arith, put.0, write_longest _ _ _ _ _ c.args.work.now _ c.check-c.ensures.0 c.if-c-ne0.false) in
     omega (arith, short)
 
 pub returns-then-length-start : goal.returns-then-length-start
 unfolding write_work
 returns-then-length-start c =
     let numbered : let a = c.args in NumberedFrom a.form a.dim a.darts a.tables.now a.root c.check-c.new.work =
-        write_numbered _ _ _ _ _ c.args.work.now _ c.check-c.ensures.0 c.if-c-ne0.false _ c.check-c.ensures.1 in
-    let put : let a = c.args in let s = stream a.form by_dart a.dim a.darts a.tables.now a.root in (c.emit-length.result ≡ length s) × (c.emit-length.new.out ≡ penned s a.start a.out.now) =
-        c.emit-length.ensures c.args.root numbered in
+    write_numbered _ _ _ _ _ c.args.work.now _ c.check-c.ensures.0 c.if-c-ne0.false _ c.check-c.ensures.1 in
+    let put : let a = c.args in let s = stream a.form by_dart a.dim a.darts a.tables.now a.root in (c.emit-length.result ≡ length s)
+    × (c.emit-length.new.out ≡ penned s a.start a.out.now) =
+    c.emit-length.ensures c.args.root numbered in
     let a = c.args in
     let (l, o) = put in
     let (p, q) = write_late _ _ _ _ _ a.work.now _ c.check-c.ensures.0 c.if-c-ne0.false a.start _ a.out.now _ l c.if-length-start.true o in
@@ -49,30 +51,33 @@ returns-then-length-start c =
 pub overflow_cast-result-2 : goal.overflow_cast-result-2
 overflow_cast-result-2 c =
     let numbered : let a = c.args in NumberedFrom a.form a.dim a.darts a.tables.now a.root c.check-c.new.work =
-        write_numbered _ _ _ _ _ c.args.work.now _ c.check-c.ensures.0 c.if-c-ne0.false _ c.check-c.ensures.1 in
-    let put : let a = c.args in let s = stream a.form by_dart a.dim a.darts a.tables.now a.root in (c.emit-length.result ≡ length s) × (c.emit-length.new.out ≡ penned s a.start a.out.now) =
-        c.emit-length.ensures c.args.root numbered in
+    write_numbered _ _ _ _ _ c.args.work.now _ c.check-c.ensures.0 c.if-c-ne0.false _ c.check-c.ensures.1 in
+    let put : let a = c.args in let s = stream a.form by_dart a.dim a.darts a.tables.now a.root in (c.emit-length.result ≡ length s)
+    × (c.emit-length.new.out ≡ penned s a.start a.out.now) =
+    c.emit-length.ensures c.args.root numbered in
     let short : c.emit-length.result ≤ 50178 =
-        omega (arith, put.0, write_longest _ _ _ _ _ c.args.work.now _ c.check-c.ensures.0 c.if-c-ne0.false) in
+    omega (arith, put.0, write_longest _ _ _ _ _ c.args.work.now _ c.check-c.ensures.0 c.if-c-ne0.false) in
     omega (arith, short)
 
 pub overflow_cast-result-3 : goal.overflow_cast-result-3
 overflow_cast-result-3 c =
     let numbered : let a = c.args in NumberedFrom a.form a.dim a.darts a.tables.now a.root c.check-c.new.work =
-        write_numbered _ _ _ _ _ c.args.work.now _ c.check-c.ensures.0 c.if-c-ne0.false _ c.check-c.ensures.1 in
-    let put : let a = c.args in let s = stream a.form by_dart a.dim a.darts a.tables.now a.root in (c.emit-length.result ≡ length s) × (c.emit-length.new.out ≡ penned s a.start a.out.now) =
-        c.emit-length.ensures c.args.root numbered in
+    write_numbered _ _ _ _ _ c.args.work.now _ c.check-c.ensures.0 c.if-c-ne0.false _ c.check-c.ensures.1 in
+    let put : let a = c.args in let s = stream a.form by_dart a.dim a.darts a.tables.now a.root in (c.emit-length.result ≡ length s)
+    × (c.emit-length.new.out ≡ penned s a.start a.out.now) =
+    c.emit-length.ensures c.args.root numbered in
     let short : c.emit-length.result ≤ 50178 =
-        omega (arith, put.0, write_longest _ _ _ _ _ c.args.work.now _ c.check-c.ensures.0 c.if-c-ne0.false) in
+    omega (arith, put.0, write_longest _ _ _ _ _ c.args.work.now _ c.check-c.ensures.0 c.if-c-ne0.false) in
     omega (arith, short)
 
 pub returns : goal.returns
 unfolding write_work
 returns c =
     let numbered : let a = c.args in NumberedFrom a.form a.dim a.darts a.tables.now a.root c.check-c.new.work =
-        write_numbered _ _ _ _ _ c.args.work.now _ c.check-c.ensures.0 c.if-c-ne0.false _ c.check-c.ensures.1 in
-    let put : let a = c.args in let s = stream a.form by_dart a.dim a.darts a.tables.now a.root in (c.emit-length.result ≡ length s) × (c.emit-length.new.out ≡ penned s a.start a.out.now) =
-        c.emit-length.ensures c.args.root numbered in
+    write_numbered _ _ _ _ _ c.args.work.now _ c.check-c.ensures.0 c.if-c-ne0.false _ c.check-c.ensures.1 in
+    let put : let a = c.args in let s = stream a.form by_dart a.dim a.darts a.tables.now a.root in (c.emit-length.result ≡ length s)
+    × (c.emit-length.new.out ≡ penned s a.start a.out.now) =
+    c.emit-length.ensures c.args.root numbered in
     let a = c.args in
     let (l, o) = put in
     let (p, q) =

@@ -44,12 +44,12 @@ returns-then-whole-eq2 c =
 pub missing-requires : goal.missing-requires
 missing-requires c =
     let waiting : let a = c.args in Holds a.self c.waits-waits.result a.page.now =
-        c.waits-waits.ensures _ c.requires in
+    c.waits-waits.ensures _ c.requires in
     let fewer : let a = c.args.self in a.waiting < size (bits_of a.waiting a.value) =
-        let e = c.whole-whole.ensures in
+    let e = c.whole-whole.ensures in
     waits_none c.requires (λ q. c.if-whole-eq1.false (e ∙ q)) (λ q. c.if-whole-eq2.false (e ∙ q)) in
     let told : let a = c.args.self in size (bits_of 24 c.waits-waits.result.head) ≡ size (bits_of a.waiting a.value) =
-        let o = waiting in head_size o.fits ∙ ap size o.held in
+    let o = waiting in head_size o.fits ∙ ap size o.held in
     let o = waiting in
     (head_small o.fits, omega (arith, fewer, told, o.bits))
 
@@ -57,12 +57,12 @@ pub returns-then-page-at-2 : goal.returns-then-page-at-2
 unfolding Starts
 returns-then-page-at-2 c =
     let waiting : let a = c.args in Holds a.self c.waits-waits.result a.page.now =
-        c.waits-waits.ensures _ c.requires in
+    c.waits-waits.ensures _ c.requires in
     let fewer : let a = c.args.self in a.waiting < size (bits_of a.waiting a.value) =
-        let e = c.whole-whole.ensures in
+    let e = c.whole-whole.ensures in
     waits_none c.requires (λ q. c.if-whole-eq1.false (e ∙ q)) (λ q. c.if-whole-eq2.false (e ∙ q)) in
     let told : let a = c.args.self in size (bits_of 24 c.waits-waits.result.head) ≡ size (bits_of a.waiting a.value) =
-        let o = waiting in head_size o.fits ∙ ap size o.held in
+    let o = waiting in head_size o.fits ∙ ap size o.held in
     let m : c.missing.result + c.args.self.waiting ≡ size (bits_of c.args.self.waiting c.args.self.value) =
     omega (arith, c.missing.ensures, told, waiting.bits) in
     waits_short c.requires _ fewer m c.if-page-at-2.true
@@ -70,7 +70,7 @@ returns-then-page-at-2 c =
 pub then-requires : goal.then-requires
 then-requires c =
     let waiting : let a = c.args in Holds a.self c.waits-waits.result a.page.now =
-        c.waits-waits.ensures _ c.requires in
+    c.waits-waits.ensures _ c.requires in
     let o = waiting in
     let l = c.here-here.ensures in
     let few = c.requires.few in
@@ -84,9 +84,9 @@ pub returns : goal.returns
 unfolding Starts
 returns c =
     let waiting : let a = c.args in Holds a.self c.waits-waits.result a.page.now =
-        c.waits-waits.ensures _ c.requires in
+    c.waits-waits.ensures _ c.requires in
     let fewer : let a = c.args.self in a.waiting < size (bits_of a.waiting a.value) =
-        let e = c.whole-whole.ensures in
+    let e = c.whole-whole.ensures in
     waits_none c.requires (λ q. c.if-whole-eq1.false (e ∙ q)) (λ q. c.if-whole-eq2.false (e ∙ q)) in
     let o = waiting in
     let l = c.here-here.ensures in

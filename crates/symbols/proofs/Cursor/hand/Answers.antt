@@ -10,9 +10,13 @@ use Rattle.symbols.proofs.Cursor.hand.Goals.{else-at-page, then-at-page}
 pub then-requires : goal.then-requires
 then-requires c =
     let ahead : let a = c.args in let h = c.if-at-page.hand in HandFits h a.page.now × (h.bits ≤ 8) × Ahead a.self h a.page.now =
-        let a = c.args in
+    let a = c.args in
     let f = c.requires in
-    elim c.if-at-page.branch [ then-at-page w ↦ let l = w.here-hand.ensures in rw w.hand-is (l.fits, omega (arith, l.more), ahead_here a.self w.if-at-page.true f.in_byte l) | else-at-page w ↦ rw w.hand-is (none_fits a.self.at a.page.now f.within, omega arith, ahead_end a.self a.page.now w.if-at-page.false) ] in
+    elim c.if-at-page.branch [
+      | then-at-page w ↦ let l = w.here-hand.ensures in
+          rw w.hand-is (l.fits, omega (arith, l.more), ahead_here a.self w.if-at-page.true f.in_byte l)
+      | else-at-page w ↦ rw w.hand-is (none_fits a.self.at a.page.now f.within, omega arith, ahead_end a.self a.page.now w.if-at-page.false)
+    ] in
     let p = c.requires in
     let o = c.waits.ensures _ p in
     let (f, few, e) = ahead in
@@ -21,9 +25,13 @@ then-requires c =
 pub returns-then-self-ne0 : goal.returns-then-self-ne0
 returns-then-self-ne0 c =
     let ahead : let a = c.args in let h = c.if-at-page.hand in HandFits h a.page.now × (h.bits ≤ 8) × Ahead a.self h a.page.now =
-        let a = c.args in
+    let a = c.args in
     let f = c.requires in
-    elim c.if-at-page.branch [ then-at-page w ↦ let l = w.here-hand.ensures in rw w.hand-is (l.fits, omega (arith, l.more), ahead_here a.self w.if-at-page.true f.in_byte l) | else-at-page w ↦ rw w.hand-is (none_fits a.self.at a.page.now f.within, omega arith, ahead_end a.self a.page.now w.if-at-page.false) ] in
+    elim c.if-at-page.branch [
+      | then-at-page w ↦ let l = w.here-hand.ensures in
+          rw w.hand-is (l.fits, omega (arith, l.more), ahead_here a.self w.if-at-page.true f.in_byte l)
+      | else-at-page w ↦ rw w.hand-is (none_fits a.self.at a.page.now f.within, omega arith, ahead_end a.self a.page.now w.if-at-page.false)
+    ] in
     let o = c.waits.ensures _ c.requires in
     let (f, few, e) = ahead in
     behind c.args.self o e (c.then.ensures _ o.fits f)
@@ -31,8 +39,12 @@ returns-then-self-ne0 c =
 pub returns : goal.returns
 returns c =
     let ahead : let a = c.args in let h = c.if-at-page.hand in HandFits h a.page.now × (h.bits ≤ 8) × Ahead a.self h a.page.now =
-        let a = c.args in
+    let a = c.args in
     let f = c.requires in
-    elim c.if-at-page.branch [ then-at-page w ↦ let l = w.here-hand.ensures in rw w.hand-is (l.fits, omega (arith, l.more), ahead_here a.self w.if-at-page.true f.in_byte l) | else-at-page w ↦ rw w.hand-is (none_fits a.self.at a.page.now f.within, omega arith, ahead_end a.self a.page.now w.if-at-page.false) ] in
+    elim c.if-at-page.branch [
+      | then-at-page w ↦ let l = w.here-hand.ensures in
+          rw w.hand-is (l.fits, omega (arith, l.more), ahead_here a.self w.if-at-page.true f.in_byte l)
+      | else-at-page w ↦ rw w.hand-is (none_fits a.self.at a.page.now f.within, omega arith, ahead_end a.self a.page.now w.if-at-page.false)
+    ] in
     let (f, few, e) = ahead in
     alone c.args.self c.if-self-ne0.false f e

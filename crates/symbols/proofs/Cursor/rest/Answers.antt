@@ -15,7 +15,7 @@ loop-hand-init c = λ d i. i
 pub loaded-hand-requires : goal.loaded-hand-requires
 loaded-hand-requires c =
     let first : let a = c.args in InHand a.self c.loop-hand.hand a.page.now =
-        c.loop-hand.invariant _ c.hand-hand.ensures in
+    c.loop-hand.invariant _ c.hand-hand.ensures in
     let i = first in (i.fits, omega (arith, held_hand i), c.loop-hand-test.true, omega arith)
 
 pub loop-hand-smaller : goal.loop-hand-smaller
@@ -27,25 +27,25 @@ loop-hand-preserved c = λ d i. more_hand c.loaded-hand.ensures c.loop-hand-test
 pub overflow_cast-result : goal.overflow_cast-result
 overflow_cast-result c =
     let first : let a = c.args in InHand a.self c.loop-hand.hand a.page.now =
-        c.loop-hand.invariant _ c.hand-hand.ensures in
+    c.loop-hand.invariant _ c.hand-hand.ensures in
     omega (arith, first.fits.few)
 
 pub overflow_sub-result : goal.overflow_sub-result
 overflow_sub-result c =
     let first : let a = c.args in InHand a.self c.loop-hand.hand a.page.now =
-        c.loop-hand.invariant _ c.hand-hand.ensures in
+    c.loop-hand.invariant _ c.hand-hand.ensures in
     (first).fits.few
 
 pub overflow_cast-result-2 : goal.overflow_cast-result-2
 overflow_cast-result-2 c =
     let first : let a = c.args in InHand a.self c.loop-hand.hand a.page.now =
-        c.loop-hand.invariant _ c.hand-hand.ensures in
+    c.loop-hand.invariant _ c.hand-hand.ensures in
     let i = first in omega (arith, head_few i.fits (omega (arith, held_hand i)))
 
 pub returns : goal.returns
 returns c =
     let first : let a = c.args in InHand a.self c.loop-hand.hand a.page.now =
-        c.loop-hand.invariant _ c.hand-hand.ensures in
+    c.loop-hand.invariant _ c.hand-hand.ensures in
     let i = first in
     let e = all_held i c.loop-hand-test.false in
     (sym (ap length e ∙ length_held i.fits), sym (ap value e ∙ sym (head_value i.fits)))

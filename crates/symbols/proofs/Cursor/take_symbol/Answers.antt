@@ -6,7 +6,7 @@ pub take-requires : goal.take-requires
 unfolding Starts
 take-requires c =
     let begun : let a = c.args in let h = c.in-Is.hand in Needed h × Reads a.self h a.page.now =
-        rw c.in-Is.is at c.first.ensures in
+    rw c.in-Is.is at c.first.ensures in
     let (n, r) = begun in (r.in_hand.fits, n)
 
 pub returns-in-Out : goal.returns-in-Out
@@ -25,5 +25,5 @@ pub returns-in-Is : goal.returns-in-Is
 unfolding Starts
 returns-in-Is c =
     let begun : let a = c.args in let h = c.in-Is.hand in Needed h × Reads a.self h a.page.now =
-        rw c.in-Is.is at c.first.ensures in
+    rw c.in-Is.is at c.first.ensures in
     c.take.ensures _ begun.1

@@ -17,7 +17,7 @@ size-requires c = head_small c.requires.0
 pub past-requires : goal.past-requires
 past-requires c =
     let first : let a = c.args in c.size.result ≡ size (held a.self) =
-        c.size.ensures ∙ head_size c.requires.0 in
+    c.size.ensures ∙ head_size c.requires.0 in
     let (f, n) = c.requires in
     let e = sym first ∙ c.if-size-eq1.true in
     let k = n.last in
@@ -26,7 +26,7 @@ past-requires c =
 pub returns-then-size-eq1 : goal.returns-then-size-eq1
 returns-then-size-eq1 c =
     let first : let a = c.args in c.size.result ≡ size (held a.self) =
-        c.size.ensures ∙ head_size c.requires.0 in
+    c.size.ensures ∙ head_size c.requires.0 in
     λ d r.
     let (f, n) = c.requires in
     let e = sym first ∙ c.if-size-eq1.true in
@@ -36,9 +36,9 @@ returns-then-size-eq1 c =
 pub missing-requires : goal.missing-requires
 missing-requires c =
     let first : let a = c.args in c.size.result ≡ size (held a.self) =
-        c.size.ensures ∙ head_size c.requires.0 in
+    c.size.ensures ∙ head_size c.requires.0 in
     let longer : 2 ≤ size (held c.args.self) =
-        omega (arith, (size_range (held c.args.self)).0, first, c.if-size-eq1.false) in
+    omega (arith, (size_range (held c.args.self)).0, first, c.if-size-eq1.false) in
     let f = c.requires.0 in
     let k = longer in
     (head_small f, omega (arith, c.if-self-lt2.true, head_size f))
@@ -46,9 +46,9 @@ missing-requires c =
 pub returns-then-page-self : goal.returns-then-page-self
 returns-then-page-self c =
     let first : let a = c.args in c.size.result ≡ size (held a.self) =
-        c.size.ensures ∙ head_size c.requires.0 in
+    c.size.ensures ∙ head_size c.requires.0 in
     let longer : 2 ≤ size (held c.args.self) =
-        omega (arith, (size_range (held c.args.self)).0, first, c.if-size-eq1.false) in
+    omega (arith, (size_range (held c.args.self)).0, first, c.if-size-eq1.false) in
     λ d r.
     let f = c.requires.0 in
     let k = longer in
@@ -57,31 +57,37 @@ returns-then-page-self c =
 pub size-requires-2 : goal.size-requires-2
 size-requires-2 c =
     let first : let a = c.args in c.size.result ≡ size (held a.self) =
-        c.size.ensures ∙ head_size c.requires.0 in
+    c.size.ensures ∙ head_size c.requires.0 in
     let longer : 2 ≤ size (held c.args.self) =
-        omega (arith, (size_range (held c.args.self)).0, first, c.if-size-eq1.false) in
+    omega (arith, (size_range (held c.args.self)).0, first, c.if-size-eq1.false) in
     let one_more_lem : let a = c.args in let h = c.if-self-lt2.hand in Grown a.self h a.page.now × (2 ≤ size (held h)) × (2 ≤ h.bits) =
-        let k = longer in
+    let k = longer in
     let n = c.requires.1 in
     let o = grown_none c.requires.0 n in
-    elim c.if-self-lt2.branch [ then-self-lt2+else-page-self w ↦ let l = w.loaded-hand.ensures in
-    rw w.hand-is (grown_more o w.if-page-self.false (omega (arith, w.if-self-lt2.true)) l, omega (arith, more_size l), omega (arith, l.more, n.some)) | else-self-lt2 w ↦ rw w.hand-is (o, k, omega (arith, w.if-self-lt2.false)) ] in
+    elim c.if-self-lt2.branch [
+      | then-self-lt2+else-page-self w ↦ let l = w.loaded-hand.ensures in
+          rw w.hand-is (grown_more o w.if-page-self.false (omega (arith, w.if-self-lt2.true)) l, omega (arith, more_size l), omega (arith, l.more, n.some))
+      | else-self-lt2 w ↦ rw w.hand-is (o, k, omega (arith, w.if-self-lt2.false))
+    ] in
     head_small one_more_lem.0.fits
 
 pub past-requires-then-size-eq2 : goal.past-requires-then-size-eq2
 past-requires-then-size-eq2 c =
     let first : let a = c.args in c.size.result ≡ size (held a.self) =
-        c.size.ensures ∙ head_size c.requires.0 in
+    c.size.ensures ∙ head_size c.requires.0 in
     let longer : 2 ≤ size (held c.args.self) =
-        omega (arith, (size_range (held c.args.self)).0, first, c.if-size-eq1.false) in
+    omega (arith, (size_range (held c.args.self)).0, first, c.if-size-eq1.false) in
     let one_more_lem : let a = c.args in let h = c.if-self-lt2.hand in Grown a.self h a.page.now × (2 ≤ size (held h)) × (2 ≤ h.bits) =
-        let k = longer in
+    let k = longer in
     let n = c.requires.1 in
     let o = grown_none c.requires.0 n in
-    elim c.if-self-lt2.branch [ then-self-lt2+else-page-self w ↦ let l = w.loaded-hand.ensures in
-    rw w.hand-is (grown_more o w.if-page-self.false (omega (arith, w.if-self-lt2.true)) l, omega (arith, more_size l), omega (arith, l.more, n.some)) | else-self-lt2 w ↦ rw w.hand-is (o, k, omega (arith, w.if-self-lt2.false)) ] in
+    elim c.if-self-lt2.branch [
+      | then-self-lt2+else-page-self w ↦ let l = w.loaded-hand.ensures in
+          rw w.hand-is (grown_more o w.if-page-self.false (omega (arith, w.if-self-lt2.true)) l, omega (arith, more_size l), omega (arith, l.more, n.some))
+      | else-self-lt2 w ↦ rw w.hand-is (o, k, omega (arith, w.if-self-lt2.false))
+    ] in
     let second : c.size-2.result ≡ size (held c.if-self-lt2.hand) =
-        c.size-2.ensures ∙ head_size one_more_lem.0.fits in
+    c.size-2.ensures ∙ head_size one_more_lem.0.fits in
     let (o, k, m) = one_more_lem in
     let e = sym second ∙ c.if-size-eq2.true in
     let n = o.needed.last in
@@ -90,17 +96,20 @@ past-requires-then-size-eq2 c =
 pub returns-then-size-eq2 : goal.returns-then-size-eq2
 returns-then-size-eq2 c =
     let first : let a = c.args in c.size.result ≡ size (held a.self) =
-        c.size.ensures ∙ head_size c.requires.0 in
+    c.size.ensures ∙ head_size c.requires.0 in
     let longer : 2 ≤ size (held c.args.self) =
-        omega (arith, (size_range (held c.args.self)).0, first, c.if-size-eq1.false) in
+    omega (arith, (size_range (held c.args.self)).0, first, c.if-size-eq1.false) in
     let one_more_lem : let a = c.args in let h = c.if-self-lt2.hand in Grown a.self h a.page.now × (2 ≤ size (held h)) × (2 ≤ h.bits) =
-        let k = longer in
+    let k = longer in
     let n = c.requires.1 in
     let o = grown_none c.requires.0 n in
-    elim c.if-self-lt2.branch [ then-self-lt2+else-page-self w ↦ let l = w.loaded-hand.ensures in
-    rw w.hand-is (grown_more o w.if-page-self.false (omega (arith, w.if-self-lt2.true)) l, omega (arith, more_size l), omega (arith, l.more, n.some)) | else-self-lt2 w ↦ rw w.hand-is (o, k, omega (arith, w.if-self-lt2.false)) ] in
+    elim c.if-self-lt2.branch [
+      | then-self-lt2+else-page-self w ↦ let l = w.loaded-hand.ensures in
+          rw w.hand-is (grown_more o w.if-page-self.false (omega (arith, w.if-self-lt2.true)) l, omega (arith, more_size l), omega (arith, l.more, n.some))
+      | else-self-lt2 w ↦ rw w.hand-is (o, k, omega (arith, w.if-self-lt2.false))
+    ] in
     let second : c.size-2.result ≡ size (held c.if-self-lt2.hand) =
-        c.size-2.ensures ∙ head_size one_more_lem.0.fits in
+    c.size-2.ensures ∙ head_size one_more_lem.0.fits in
     λ d r.
     let (o, k, m) = one_more_lem in
     let e = sym second ∙ c.if-size-eq2.true in
@@ -111,32 +120,38 @@ returns-then-size-eq2 c =
 pub take_index-requires : goal.take_index-requires
 take_index-requires c =
     let first : let a = c.args in c.size.result ≡ size (held a.self) =
-        c.size.ensures ∙ head_size c.requires.0 in
+    c.size.ensures ∙ head_size c.requires.0 in
     let longer : 2 ≤ size (held c.args.self) =
-        omega (arith, (size_range (held c.args.self)).0, first, c.if-size-eq1.false) in
+    omega (arith, (size_range (held c.args.self)).0, first, c.if-size-eq1.false) in
     let one_more_lem : let a = c.args in let h = c.if-self-lt2.hand in Grown a.self h a.page.now × (2 ≤ size (held h)) × (2 ≤ h.bits) =
-        let k = longer in
+    let k = longer in
     let n = c.requires.1 in
     let o = grown_none c.requires.0 n in
-    elim c.if-self-lt2.branch [ then-self-lt2+else-page-self w ↦ let l = w.loaded-hand.ensures in
-    rw w.hand-is (grown_more o w.if-page-self.false (omega (arith, w.if-self-lt2.true)) l, omega (arith, more_size l), omega (arith, l.more, n.some)) | else-self-lt2 w ↦ rw w.hand-is (o, k, omega (arith, w.if-self-lt2.false)) ] in
+    elim c.if-self-lt2.branch [
+      | then-self-lt2+else-page-self w ↦ let l = w.loaded-hand.ensures in
+          rw w.hand-is (grown_more o w.if-page-self.false (omega (arith, w.if-self-lt2.true)) l, omega (arith, more_size l), omega (arith, l.more, n.some))
+      | else-self-lt2 w ↦ rw w.hand-is (o, k, omega (arith, w.if-self-lt2.false))
+    ] in
     let second : c.size-2.result ≡ size (held c.if-self-lt2.hand) =
-        c.size-2.ensures ∙ head_size one_more_lem.0.fits in
+    c.size-2.ensures ∙ head_size one_more_lem.0.fits in
     let wide : size (held c.if-self-lt2.hand) ≡ 14 =
-        let k = one_more_lem.1 in
+    let k = one_more_lem.1 in
     size_kinds _ (λ q. absurd (omega (arith, q))) (λ q. c.if-size-eq2.false (second ∙ q)) in
     let o = one_more_lem.0 in (o.fits, o.needed, wide)
 
 pub returns : goal.returns
 returns c =
     let first : let a = c.args in c.size.result ≡ size (held a.self) =
-        c.size.ensures ∙ head_size c.requires.0 in
+    c.size.ensures ∙ head_size c.requires.0 in
     let longer : 2 ≤ size (held c.args.self) =
-        omega (arith, (size_range (held c.args.self)).0, first, c.if-size-eq1.false) in
+    omega (arith, (size_range (held c.args.self)).0, first, c.if-size-eq1.false) in
     let one_more_lem : let a = c.args in let h = c.if-self-lt2.hand in Grown a.self h a.page.now × (2 ≤ size (held h)) × (2 ≤ h.bits) =
-        let k = longer in
+    let k = longer in
     let n = c.requires.1 in
     let o = grown_none c.requires.0 n in
-    elim c.if-self-lt2.branch [ then-self-lt2+else-page-self w ↦ let l = w.loaded-hand.ensures in
-    rw w.hand-is (grown_more o w.if-page-self.false (omega (arith, w.if-self-lt2.true)) l, omega (arith, more_size l), omega (arith, l.more, n.some)) | else-self-lt2 w ↦ rw w.hand-is (o, k, omega (arith, w.if-self-lt2.false)) ] in
+    elim c.if-self-lt2.branch [
+      | then-self-lt2+else-page-self w ↦ let l = w.loaded-hand.ensures in
+          rw w.hand-is (grown_more o w.if-page-self.false (omega (arith, w.if-self-lt2.true)) l, omega (arith, more_size l), omega (arith, l.more, n.some))
+      | else-self-lt2 w ↦ rw w.hand-is (o, k, omega (arith, w.if-self-lt2.false))
+    ] in
     λ d r. c.take_index.ensures d (one_more_lem.0.reads d r)

@@ -27,24 +27,30 @@ returns-then-page-self c =
 pub missing-requires-then-page-hand : goal.missing-requires-then-page-hand
 missing-requires-then-page-hand c =
     let one_more_lem : let a = c.args in let h = c.if-self-lt14.hand in Grown a.self h a.page.now × (size (held h) ≡ 14) × (10 ≤ h.bits) =
-        let f = c.requires.0 in
+    let f = c.requires.0 in
     let e = c.requires.2 in
     let m = size_wide (held c.args.self) e in
     let o = grown_none f c.requires.1 in
-    elim c.if-self-lt14.branch [ then-self-lt14+else-page-self w ↦ let l = w.loaded-hand.ensures in
-    rw w.hand-is (grown_more o w.if-page-self.false (omega (arith, w.if-self-lt14.true)) l, more_wide l e, omega (arith, l.more, length_held f)) | else-self-lt14 w ↦ rw w.hand-is (o, e, omega (arith, w.if-self-lt14.false)) ] in
+    elim c.if-self-lt14.branch [
+      | then-self-lt14+else-page-self w ↦ let l = w.loaded-hand.ensures in
+          rw w.hand-is (grown_more o w.if-page-self.false (omega (arith, w.if-self-lt14.true)) l, more_wide l e, omega (arith, l.more, length_held f))
+      | else-self-lt14 w ↦ rw w.hand-is (o, e, omega (arith, w.if-self-lt14.false))
+    ] in
     let (o, e, m) = one_more_lem in
     (head_small o.fits, omega (arith, c.if-hand-lt14.true, head_size o.fits))
 
 pub returns-then-page-hand : goal.returns-then-page-hand
 returns-then-page-hand c =
     let one_more_lem : let a = c.args in let h = c.if-self-lt14.hand in Grown a.self h a.page.now × (size (held h) ≡ 14) × (10 ≤ h.bits) =
-        let f = c.requires.0 in
+    let f = c.requires.0 in
     let e = c.requires.2 in
     let m = size_wide (held c.args.self) e in
     let o = grown_none f c.requires.1 in
-    elim c.if-self-lt14.branch [ then-self-lt14+else-page-self w ↦ let l = w.loaded-hand.ensures in
-    rw w.hand-is (grown_more o w.if-page-self.false (omega (arith, w.if-self-lt14.true)) l, more_wide l e, omega (arith, l.more, length_held f)) | else-self-lt14 w ↦ rw w.hand-is (o, e, omega (arith, w.if-self-lt14.false)) ] in
+    elim c.if-self-lt14.branch [
+      | then-self-lt14+else-page-self w ↦ let l = w.loaded-hand.ensures in
+          rw w.hand-is (grown_more o w.if-page-self.false (omega (arith, w.if-self-lt14.true)) l, more_wide l e, omega (arith, l.more, length_held f))
+      | else-self-lt14 w ↦ rw w.hand-is (o, e, omega (arith, w.if-self-lt14.false))
+    ] in
     λ d r.
     let (o, e, m) = one_more_lem in
     let k = c.missing-then-page-hand.ensures ∙ head_size o.fits in
@@ -53,64 +59,85 @@ returns-then-page-hand c =
 pub loaded-hand-requires-then-hand-lt14 : goal.loaded-hand-requires-then-hand-lt14
 loaded-hand-requires-then-hand-lt14 c =
     let one_more_lem : let a = c.args in let h = c.if-self-lt14.hand in Grown a.self h a.page.now × (size (held h) ≡ 14) × (10 ≤ h.bits) =
-        let f = c.requires.0 in
+    let f = c.requires.0 in
     let e = c.requires.2 in
     let m = size_wide (held c.args.self) e in
     let o = grown_none f c.requires.1 in
-    elim c.if-self-lt14.branch [ then-self-lt14+else-page-self w ↦ let l = w.loaded-hand.ensures in
-    rw w.hand-is (grown_more o w.if-page-self.false (omega (arith, w.if-self-lt14.true)) l, more_wide l e, omega (arith, l.more, length_held f)) | else-self-lt14 w ↦ rw w.hand-is (o, e, omega (arith, w.if-self-lt14.false)) ] in
+    elim c.if-self-lt14.branch [
+      | then-self-lt14+else-page-self w ↦ let l = w.loaded-hand.ensures in
+          rw w.hand-is (grown_more o w.if-page-self.false (omega (arith, w.if-self-lt14.true)) l, more_wide l e, omega (arith, l.more, length_held f))
+      | else-self-lt14 w ↦ rw w.hand-is (o, e, omega (arith, w.if-self-lt14.false))
+    ] in
     let o = one_more_lem.0 in
     (o.fits, omega (arith, c.if-hand-lt14.true), c.if-page-hand.false, omega arith)
 
 pub overflow_sub-w : goal.overflow_sub-w
 overflow_sub-w c =
     let one_more_lem : let a = c.args in let h = c.if-self-lt14.hand in Grown a.self h a.page.now × (size (held h) ≡ 14) × (10 ≤ h.bits) =
-        let f = c.requires.0 in
+    let f = c.requires.0 in
     let e = c.requires.2 in
     let m = size_wide (held c.args.self) e in
     let o = grown_none f c.requires.1 in
-    elim c.if-self-lt14.branch [ then-self-lt14+else-page-self w ↦ let l = w.loaded-hand.ensures in
-    rw w.hand-is (grown_more o w.if-page-self.false (omega (arith, w.if-self-lt14.true)) l, more_wide l e, omega (arith, l.more, length_held f)) | else-self-lt14 w ↦ rw w.hand-is (o, e, omega (arith, w.if-self-lt14.false)) ] in
+    elim c.if-self-lt14.branch [
+      | then-self-lt14+else-page-self w ↦ let l = w.loaded-hand.ensures in
+          rw w.hand-is (grown_more o w.if-page-self.false (omega (arith, w.if-self-lt14.true)) l, more_wide l e, omega (arith, l.more, length_held f))
+      | else-self-lt14 w ↦ rw w.hand-is (o, e, omega (arith, w.if-self-lt14.false))
+    ] in
     let two-more : let a = c.args in let h = c.if-hand-lt14.hand in Grown a.self h a.page.now × (size (held h) ≡ 14) × (14 ≤ h.bits) =
-        let p = one_more_lem in
+    let p = one_more_lem in
     let o = p.0 in
     let e = p.1 in
-    elim c.if-hand-lt14.branch [ then-hand-lt14+else-page-hand w ↦ let l = w.loaded-hand-then-hand-lt14.ensures in
-    rw w.hand-is (grown_more o w.if-page-hand.false (omega (arith, w.if-hand-lt14.true)) l, more_wide l e, omega (arith, l.more, p.2)) | else-hand-lt14 w ↦ rw w.hand-is (o, e, omega (arith, w.if-hand-lt14.false)) ] in
+    elim c.if-hand-lt14.branch [
+      | then-hand-lt14+else-page-hand w ↦ let l = w.loaded-hand-then-hand-lt14.ensures in
+          rw w.hand-is (grown_more o w.if-page-hand.false (omega (arith, w.if-hand-lt14.true)) l, more_wide l e, omega (arith, l.more, p.2))
+      | else-hand-lt14 w ↦ rw w.hand-is (o, e, omega (arith, w.if-hand-lt14.false))
+    ] in
     let (o, e, m) = two-more in omega (arith, head_wide o.fits e)
 
 pub overflow_cast-w : goal.overflow_cast-w
 overflow_cast-w c =
     let one_more_lem : let a = c.args in let h = c.if-self-lt14.hand in Grown a.self h a.page.now × (size (held h) ≡ 14) × (10 ≤ h.bits) =
-        let f = c.requires.0 in
+    let f = c.requires.0 in
     let e = c.requires.2 in
     let m = size_wide (held c.args.self) e in
     let o = grown_none f c.requires.1 in
-    elim c.if-self-lt14.branch [ then-self-lt14+else-page-self w ↦ let l = w.loaded-hand.ensures in
-    rw w.hand-is (grown_more o w.if-page-self.false (omega (arith, w.if-self-lt14.true)) l, more_wide l e, omega (arith, l.more, length_held f)) | else-self-lt14 w ↦ rw w.hand-is (o, e, omega (arith, w.if-self-lt14.false)) ] in
+    elim c.if-self-lt14.branch [
+      | then-self-lt14+else-page-self w ↦ let l = w.loaded-hand.ensures in
+          rw w.hand-is (grown_more o w.if-page-self.false (omega (arith, w.if-self-lt14.true)) l, more_wide l e, omega (arith, l.more, length_held f))
+      | else-self-lt14 w ↦ rw w.hand-is (o, e, omega (arith, w.if-self-lt14.false))
+    ] in
     let two-more : let a = c.args in let h = c.if-hand-lt14.hand in Grown a.self h a.page.now × (size (held h) ≡ 14) × (14 ≤ h.bits) =
-        let p = one_more_lem in
+    let p = one_more_lem in
     let o = p.0 in
     let e = p.1 in
-    elim c.if-hand-lt14.branch [ then-hand-lt14+else-page-hand w ↦ let l = w.loaded-hand-then-hand-lt14.ensures in
-    rw w.hand-is (grown_more o w.if-page-hand.false (omega (arith, w.if-hand-lt14.true)) l, more_wide l e, omega (arith, l.more, p.2)) | else-hand-lt14 w ↦ rw w.hand-is (o, e, omega (arith, w.if-hand-lt14.false)) ] in
+    elim c.if-hand-lt14.branch [
+      | then-hand-lt14+else-page-hand w ↦ let l = w.loaded-hand-then-hand-lt14.ensures in
+          rw w.hand-is (grown_more o w.if-page-hand.false (omega (arith, w.if-hand-lt14.true)) l, more_wide l e, omega (arith, l.more, p.2))
+      | else-hand-lt14 w ↦ rw w.hand-is (o, e, omega (arith, w.if-hand-lt14.false))
+    ] in
     let o = two-more.0 in omega (arith, head_small o.fits)
 
 pub past-requires : goal.past-requires
 past-requires c =
     let one_more_lem : let a = c.args in let h = c.if-self-lt14.hand in Grown a.self h a.page.now × (size (held h) ≡ 14) × (10 ≤ h.bits) =
-        let f = c.requires.0 in
+    let f = c.requires.0 in
     let e = c.requires.2 in
     let m = size_wide (held c.args.self) e in
     let o = grown_none f c.requires.1 in
-    elim c.if-self-lt14.branch [ then-self-lt14+else-page-self w ↦ let l = w.loaded-hand.ensures in
-    rw w.hand-is (grown_more o w.if-page-self.false (omega (arith, w.if-self-lt14.true)) l, more_wide l e, omega (arith, l.more, length_held f)) | else-self-lt14 w ↦ rw w.hand-is (o, e, omega (arith, w.if-self-lt14.false)) ] in
+    elim c.if-self-lt14.branch [
+      | then-self-lt14+else-page-self w ↦ let l = w.loaded-hand.ensures in
+          rw w.hand-is (grown_more o w.if-page-self.false (omega (arith, w.if-self-lt14.true)) l, more_wide l e, omega (arith, l.more, length_held f))
+      | else-self-lt14 w ↦ rw w.hand-is (o, e, omega (arith, w.if-self-lt14.false))
+    ] in
     let two-more : let a = c.args in let h = c.if-hand-lt14.hand in Grown a.self h a.page.now × (size (held h) ≡ 14) × (14 ≤ h.bits) =
-        let p = one_more_lem in
+    let p = one_more_lem in
     let o = p.0 in
     let e = p.1 in
-    elim c.if-hand-lt14.branch [ then-hand-lt14+else-page-hand w ↦ let l = w.loaded-hand-then-hand-lt14.ensures in
-    rw w.hand-is (grown_more o w.if-page-hand.false (omega (arith, w.if-hand-lt14.true)) l, more_wide l e, omega (arith, l.more, p.2)) | else-hand-lt14 w ↦ rw w.hand-is (o, e, omega (arith, w.if-hand-lt14.false)) ] in
+    elim c.if-hand-lt14.branch [
+      | then-hand-lt14+else-page-hand w ↦ let l = w.loaded-hand-then-hand-lt14.ensures in
+          rw w.hand-is (grown_more o w.if-page-hand.false (omega (arith, w.if-hand-lt14.true)) l, more_wide l e, omega (arith, l.more, p.2))
+      | else-hand-lt14 w ↦ rw w.hand-is (o, e, omega (arith, w.if-hand-lt14.false))
+    ] in
     let (o, e, m) = two-more in
     let n = o.needed.last in
     (m, omega arith, omega arith, o.needed.loaded)
@@ -118,18 +145,24 @@ past-requires c =
 pub returns : goal.returns
 returns c =
     let one_more_lem : let a = c.args in let h = c.if-self-lt14.hand in Grown a.self h a.page.now × (size (held h) ≡ 14) × (10 ≤ h.bits) =
-        let f = c.requires.0 in
+    let f = c.requires.0 in
     let e = c.requires.2 in
     let m = size_wide (held c.args.self) e in
     let o = grown_none f c.requires.1 in
-    elim c.if-self-lt14.branch [ then-self-lt14+else-page-self w ↦ let l = w.loaded-hand.ensures in
-    rw w.hand-is (grown_more o w.if-page-self.false (omega (arith, w.if-self-lt14.true)) l, more_wide l e, omega (arith, l.more, length_held f)) | else-self-lt14 w ↦ rw w.hand-is (o, e, omega (arith, w.if-self-lt14.false)) ] in
+    elim c.if-self-lt14.branch [
+      | then-self-lt14+else-page-self w ↦ let l = w.loaded-hand.ensures in
+          rw w.hand-is (grown_more o w.if-page-self.false (omega (arith, w.if-self-lt14.true)) l, more_wide l e, omega (arith, l.more, length_held f))
+      | else-self-lt14 w ↦ rw w.hand-is (o, e, omega (arith, w.if-self-lt14.false))
+    ] in
     let two-more : let a = c.args in let h = c.if-hand-lt14.hand in Grown a.self h a.page.now × (size (held h) ≡ 14) × (14 ≤ h.bits) =
-        let p = one_more_lem in
+    let p = one_more_lem in
     let o = p.0 in
     let e = p.1 in
-    elim c.if-hand-lt14.branch [ then-hand-lt14+else-page-hand w ↦ let l = w.loaded-hand-then-hand-lt14.ensures in
-    rw w.hand-is (grown_more o w.if-page-hand.false (omega (arith, w.if-hand-lt14.true)) l, more_wide l e, omega (arith, l.more, p.2)) | else-hand-lt14 w ↦ rw w.hand-is (o, e, omega (arith, w.if-hand-lt14.false)) ] in
+    elim c.if-hand-lt14.branch [
+      | then-hand-lt14+else-page-hand w ↦ let l = w.loaded-hand-then-hand-lt14.ensures in
+          rw w.hand-is (grown_more o w.if-page-hand.false (omega (arith, w.if-hand-lt14.true)) l, more_wide l e, omega (arith, l.more, p.2))
+      | else-hand-lt14 w ↦ rw w.hand-is (o, e, omega (arith, w.if-hand-lt14.false))
+    ] in
     λ d r.
     let h = c.if-hand-lt14.hand in
     let page = c.args.page.now in
