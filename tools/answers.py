@@ -176,21 +176,6 @@ class Turner:
         head, mid, tail = text[:m.start()], text[m.start():m.end()], text[m.end():k]
         return sub(head) + mid + (sub(tail) if mid.startswith("let") else tail) + text[k:]
 
-    def fresh(self, texts):
-        """The names that a helper binds, each with a number of its own."""
-        bound = set()
-        for s in texts:
-            bound |= set(re.findall(r"(?:let|λ) ([\w'₀-₉-]+)(?= [=:]|\.)", s))
-            for g in re.findall(r"let \(([\w'₀-₉, -]+)\) =", s):
-                bound |= set(x.strip() for x in g.split(","))
-            for g in re.findall(r"λ ([\w'₀-₉ ]+)\.", s):
-                bound |= set(g.split())
-        bound -= {"_"}
-        if not bound:
-            return texts
-        names = "|".join(sorted((re.escape(b) for b in bound), key=len, reverse=True))
-        return [re.sub(rf"(?<![\w.'₀-₉-])({names})(?![\w'₀-₉-])", lambda m: f"{m[1]}_{self.count}", s) for s in texts]
-
     def flat(self, text, roots):
         """Each place is the root itself."""
         names = "|".join(re.escape(r) for r in roots)
@@ -209,10 +194,40 @@ class Turner:
                     continue
                 text = text[:m.start()] + self.put(m[1], m[2], text[m.end():])
                 break
-            text = self.inline(text, roots)
+            for h in self.helpers:
+                text = re.sub(rf"{WORDEDGE}({re.escape(h)}) (?:{names})(?![\w.'₀-₉-])", r"\1", text)
+                text = re.sub(rf"(?<=[\s(])\(({re.escape(h)})\)", r"\1", text)
             if text == before:
                 break
         return text
+
+    def needed(self, text):
+        """The helpers that a text uses, and those that these use, in their order."""
+        out = set()
+        todo = [text]
+        while todo:
+            s = todo.pop()
+            for h, (_, ty, b) in self.helpers.items():
+                if h not in out and re.search(rf"{WORDEDGE}{re.escape(h)}(?![\w'₀-₉-])", s):
+                    out.add(h)
+                    todo += [ty, b]
+        return [h for h in self.helpers if h in out]
+
+    def hoisted(self, text, roots):
+        """A let for each helper that a text uses: all places are the root, so each is said once."""
+        out = ""
+        root = next(iter(roots))
+        for h in self.needed(text):
+            params, ty, b = self.helpers[h]
+            sub = lambda s: re.sub(rf"{WORDEDGE}{re.escape(params[0])}(?![\w'₀-₉-])", lambda _: root, s)
+            if params[0] != root:
+                ty, b = sub(ty), sub(b)
+            ty, b = self.body(ty, roots), self.body(b, roots)
+            more = "λ " + " ".join(params[1:]) + ". " if params[1:] else ""
+            b = " ".join(b.split()) if len(b) < 100 else b
+            ty = " ".join(ty.split())
+            out += f"let {h} : {ty} =\n        {more}{b} in\n    "
+        return out
 
     def chain(self, first):
         """The places of a branch, from its test on to where it joins."""
@@ -276,29 +291,6 @@ class Turner:
                 m = re.compile(r"⊎_elim\s*(?=\()").search(text, m.end())
             if not done:
                 break
-        return text
-
-    def inline(self, text, roots):
-        for name, (params, sig, body) in self.helpers.items():
-            m = re.search(rf"{WORDEDGE}{re.escape(name)}(?![\w.'₀-₉-])", text)
-            while m:
-                got, end = atoms(text, m.end(), len(params))
-                if got is None:
-                    self.left.append(f"{name} without its arguments")
-                    break
-                self.count += 1
-                s, b = self.fresh([sig, body])
-                for p, a in zip(params, got):
-                    f = lambda _, a=a: a
-                    s = re.sub(rf"{WORDEDGE}{re.escape(p)}(?![\w'₀-₉-])", f, s)
-                    b = re.sub(rf"{WORDEDGE}{re.escape(p)}(?![\w'₀-₉-])", f, b)
-                v = "h" + str(self.count)
-                new = f"(let {v} : {s} = {b} in {v})"
-                at = m.start()
-                if text[at - 1:at] == "(" and text[end:end + 1] == ")":
-                    at, end = at - 1, end + 1
-                text = text[:at] + new + text[end:]
-                m = re.compile(rf"{WORDEDGE}{re.escape(name)}(?![\w.'₀-₉-])").search(text, at + len(new))
         return text
 
     def body(self, text, roots):
@@ -425,7 +417,8 @@ def turn(path, crate, name, j, keep=False):
                     unf = "unfolding " + " ".join(have + more) + "\n"
             extra = [a for a in args[1:] if a != "κs"]
             before = len(t.left)
-            eq2 = t.body(eq, roots)
+            lets = t.hoisted(eq, roots) if root else ""
+            eq2 = lets + t.body(eq, roots)
             # the length of an array's values is said of the array itself
             eq2 = re.sub(r"sym \(length-map \S+ \(λ (\w+)\. \1\)\) ∙ ", "", eq2)
             # a test of `!x` tells what x is
@@ -448,7 +441,7 @@ def turn(path, crate, name, j, keep=False):
             left = ty.strip()
             good = True
             prefix = ""
-            for prm in params:
+            for prm in params[:1]:
                 while True:
                     g = re.match(r"let \w+ = .*? in\s+", left, re.S)
                     if not g:

@@ -18,11 +18,15 @@ returns-then-dim-gt6 c = misfit_dim _ _ _ _ _ (dim_high _ c.if-dim-gt6.true)
 
 pub returns-then-darts-lt1 : goal.returns-then-darts-lt1
 returns-then-darts-lt1 c =
-    misfit_darts _ _ _ _ _ (let h1 : dim_fits c.args.dim ≡ true = fits_dim c.args.dim (omega arith) (omega arith) in h1) (darts_low _ c.if-darts-lt1.true)
+    let dims : dim_fits c.args.dim ≡ true =
+        fits_dim c.args.dim (omega arith) (omega arith) in
+    misfit_darts _ _ _ _ _ dims (darts_low _ c.if-darts-lt1.true)
 
 pub returns-then-darts-gt-DARTS : goal.returns-then-darts-gt-DARTS
 returns-then-darts-gt-DARTS c =
-    misfit_darts _ _ _ _ _ (let h2 : dim_fits c.args.dim ≡ true = fits_dim c.args.dim (omega arith) (omega arith) in h2) (darts_high _ c.if-darts-gt-DARTS.true)
+    let dims : dim_fits c.args.dim ≡ true =
+        fits_dim c.args.dim (omega arith) (omega arith) in
+    misfit_darts _ _ _ _ _ dims (darts_high _ c.if-darts-gt-DARTS.true)
 
 pub overflow_mul-dim : goal.overflow_mul-dim
 overflow_mul-dim c =
@@ -32,16 +36,38 @@ overflow_mul-dim c =
 
 pub returns-then-tables-dim : goal.returns-then-tables-dim
 returns-then-tables-dim c =
-    misfit_tables _ _ _ _ _ (let h3 : dim_fits c.args.dim ≡ true = fits_dim c.args.dim (omega arith) (omega arith) in h3) (let h4 : darts_fit c.args.darts ≡ true = fits_darts c.args.darts (omega arith) (omega arith) in h4) (omega arith)
+    let dims : dim_fits c.args.dim ≡ true =
+        fits_dim c.args.dim (omega arith) (omega arith) in
+    let some : darts_fit c.args.darts ≡ true =
+        fits_darts c.args.darts (omega arith) (omega arith) in
+    misfit_tables _ _ _ _ _ dims some (omega arith)
 
 pub returns-then-work-darts : goal.returns-then-work-darts
 returns-then-work-darts c =
-    misfit_work _ _ _ _ _ (let h5 : dim_fits c.args.dim ≡ true = fits_dim c.args.dim (omega arith) (omega arith) in h5) (let h6 : darts_fit c.args.darts ≡ true = fits_darts c.args.darts (omega arith) (omega arith) in h6) (let h7 : let a_7 = c.args in size a_7.dim a_7.darts ≤ a_7.tables = omega arith in h7) c.if-work-darts.true
+    let dims : dim_fits c.args.dim ≡ true =
+        fits_dim c.args.dim (omega arith) (omega arith) in
+    let some : darts_fit c.args.darts ≡ true =
+        fits_darts c.args.darts (omega arith) (omega arith) in
+    let enough : let a = c.args in size a.dim a.darts ≤ a.tables =
+        omega arith in
+    misfit_work _ _ _ _ _ dims some enough c.if-work-darts.true
 
 pub returns-then-darts-root : goal.returns-then-darts-root
 returns-then-darts-root c =
-    misfit_root _ _ _ _ _ (let h8 : dim_fits c.args.dim ≡ true = fits_dim c.args.dim (omega arith) (omega arith) in h8) (let h9 : darts_fit c.args.darts ≡ true = fits_darts c.args.darts (omega arith) (omega arith) in h9) (let h10 : let a_10 = c.args in size a_10.dim a_10.darts ≤ a_10.tables = omega arith in h10) c.if-work-darts.false c.if-darts-root.true
+    let dims : dim_fits c.args.dim ≡ true =
+        fits_dim c.args.dim (omega arith) (omega arith) in
+    let some : darts_fit c.args.darts ≡ true =
+        fits_darts c.args.darts (omega arith) (omega arith) in
+    let enough : let a = c.args in size a.dim a.darts ≤ a.tables =
+        omega arith in
+    misfit_root _ _ _ _ _ dims some enough c.if-work-darts.false c.if-darts-root.true
 
 pub returns : goal.returns
 returns c =
-    misfit_none _ _ _ _ _ (let h11 : dim_fits c.args.dim ≡ true = fits_dim c.args.dim (omega arith) (omega arith) in h11) (let h12 : darts_fit c.args.darts ≡ true = fits_darts c.args.darts (omega arith) (omega arith) in h12) (let h13 : let a_13 = c.args in size a_13.dim a_13.darts ≤ a_13.tables = omega arith in h13) c.if-work-darts.false c.if-darts-root.false
+    let dims : dim_fits c.args.dim ≡ true =
+        fits_dim c.args.dim (omega arith) (omega arith) in
+    let some : darts_fit c.args.darts ≡ true =
+        fits_darts c.args.darts (omega arith) (omega arith) in
+    let enough : let a = c.args in size a.dim a.darts ≤ a.tables =
+        omega arith in
+    misfit_none _ _ _ _ _ dims some enough c.if-work-darts.false c.if-darts-root.false

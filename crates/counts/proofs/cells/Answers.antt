@@ -1,6 +1,6 @@
 -- `counts::cells` meets its contract: each dart below d is marked, and the darts from which floods were started are those that lead
 -- their cells. Assumes nothing.
-use Prim.Native.Nat.{◌<◌}
+use Prim.Native.Nat.{◌-◌, ◌<◌}
 use mathlib.Core.Path.{refl, ◌∙◌}
 use native.Mathlib.Omega.{arith}
 use Rattle.flood.proofs.Queues.{past_blanked}
@@ -29,8 +29,10 @@ overflow_cast-d c = omega arith
 
 pub flood-tail-requires : goal.flood-tail-requires
 flood-tail-requires c =
+    let dart-below : c.loop-tail.d < c.args.darts =
+        swept_more c.loop-tail.invariant.2 c.loop-tail-test.true in
     let p = c.requires in
-    let hd = (let h1 : c.loop-tail.d < c.args.darts = swept_more c.loop-tail.invariant.2 c.loop-tail-test.true in h1) in
+    let hd = dart-below in
     (p.0, c.loop-tail.invariant.2.queue, rw c.all_but-ranks.ensures (omega arith), orbit_inside p.1 (omega (arith, hd)), omega arith)
 
 pub overflow_add-found : goal.overflow_add-found
@@ -40,20 +42,22 @@ pub overflow_add-d : goal.overflow_add-d
 overflow_add-d c = omega arith
 
 pub loop-tail-smaller : goal.loop-tail-smaller
-loop-tail-smaller c = omega (arith, (let h2 : c.loop-tail.d < c.args.darts = swept_more c.loop-tail.invariant.2 c.loop-tail-test.true in h2))
+loop-tail-smaller c =
+    let dart-below : c.loop-tail.d < c.args.darts =
+        swept_more c.loop-tail.invariant.2 c.loop-tail-test.true in
+    omega (arith, dart-below)
 
 pub loop-tail-preserved : goal.loop-tail-preserved
 loop-tail-preserved c =
+    let dart-below : c.loop-tail.d < c.args.darts =
+        swept_more c.loop-tail.invariant.2 c.loop-tail-test.true in
     let (same, below, R, past) = c.loop-tail.invariant in
     let v = c.requires.1 in
     let skip = c.args.skip in
-    let hd = (let h3 : c.loop-tail.d < c.args.darts = swept_more c.loop-tail.invariant.2 c.loop-tail-test.true in h3) in
-    elim c.if-work-d.branch [
-      | then-work-d w ↦ let F = flooded_but skip c.all_but-ranks.ensures w.flood-tail.ensures in
-          let kept = (flooded_on R.queue (omega (arith, hd)) (omega arith) F).past ∙ past in
-          rw (w.work-is, w.found-is, w.tail-is) (w.flood-tail.auto.work ∙ same, omega (arith, hd), swept_new v R hd w.if-work-d.true F, kept)
-      | else-work-d w ↦ rw (w.work-is, w.found-is, w.tail-is) (same, omega (arith, hd), swept_old v R hd w.if-work-d.false, past)
-    ]
+    let hd = dart-below in
+    elim c.if-work-d.branch [ then-work-d w ↦ let F = flooded_but skip c.all_but-ranks.ensures w.flood-tail.ensures in
+    let kept = (flooded_on R.queue (omega (arith, hd)) (omega arith) F).past ∙ past in
+    rw (w.work-is, w.found-is, w.tail-is) (w.flood-tail.auto.work ∙ same, omega (arith, hd), swept_new v R hd w.if-work-d.true F, kept) | else-work-d w ↦ rw (w.work-is, w.found-is, w.tail-is) (same, omega (arith, hd), swept_old v R hd w.if-work-d.false, past) ]
 
 pub returns : goal.returns
 returns c =

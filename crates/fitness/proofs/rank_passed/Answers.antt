@@ -1,5 +1,5 @@
 -- `fitness::rank_passed` meets its contract: `bad` counts the darts before d that have no link of the rank. Assumes nothing.
-use Prim.Native.Nat.{◌<◌}
+use Prim.Native.Nat.{◌-◌, ◌<◌}
 use native.Mathlib.Omega.{arith}
 use lib.ListN.{length}
 use Rattle.tables.proofs.Laws.{place_within}
@@ -12,11 +12,15 @@ loop-d-init c = tallied_start _ _ _ c.requires.2
 
 pub offset_bounds-tables-place : goal.offset_bounds-tables-place
 offset_bounds-tables-place c =
-    omega (arith, (let h1 : c.place.result < length c.args.tables.now = rw c.place.ensures (place_within _ _ _ _ c.loop-d.d c.requires.0 c.requires.1 (omega arith)) in h1))
+    let within : c.place.result < length c.args.tables.now =
+        rw c.place.ensures (place_within _ _ _ _ c.loop-d.d c.requires.0 c.requires.1 (omega arith)) in
+    omega (arith, within)
 
 pub bounds-tables-place : goal.bounds-tables-place
 bounds-tables-place c =
-    (let h2 : c.place.result < length c.args.tables.now = rw c.place.ensures (place_within _ _ _ _ c.loop-d.d c.requires.0 c.requires.1 (omega arith)) in h2)
+    let within : c.place.result < length c.args.tables.now =
+        rw c.place.ensures (place_within _ _ _ _ c.loop-d.d c.requires.0 c.requires.1 (omega arith)) in
+    within
 
 pub overflow_add-bad : goal.overflow_add-bad
 overflow_add-bad c = omega arith

@@ -10,8 +10,10 @@ returns-then-not-walk_fits c = running_unfit _ _ _ c.walk_fits.ensures (ap not c
 
 pub asks-requires : goal.asks-requires
 asks-requires c =
+    let seven : length c.args.s.positions ≡ 7 =
+        c.well_formed.0.1.1.1.1.1.1.0.1.0.1 in
     let w = c.walk_fits.ensures in
-    (limits_of _ _ _ w (ap not c.if-not-walk_fits.false), shape_of _ _ _ w (ap not c.if-not-walk_fits.false) (let h1 : length c.args.s.positions ≡ 7 = c.well_formed.0.1.1.1.1.1.1.0.1.0.1 in h1) _ c.stand_of.ensures)
+    (limits_of _ _ _ w (ap not c.if-not-walk_fits.false), shape_of _ _ _ w (ap not c.if-not-walk_fits.false) seven _ c.stand_of.ensures)
 
 pub returns-then-not-asks : goal.returns-then-not-asks
 returns-then-not-asks c =

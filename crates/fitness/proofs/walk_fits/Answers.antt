@@ -47,8 +47,8 @@ entries_fit-requires c =
 
 pub returns : goal.returns
 returns c =
-    walk_entries _ _ _ c.positions_fall.ensures _ c.positions_past.ensures
-    (let h1 : let a_1 = c.args in Sized a_1.s a_1.tables.now = record {
+    let sized : let a = c.args in Sized a.s a.tables.now =
+        record {
       low = c.if-dim-lt1.false;
       high = c.if-dim-gt6.false;
       some = c.if-darts-lt1.false;
@@ -56,4 +56,6 @@ returns c =
       room = c.if-tables-dim.false;
       first = c.if-s-lt1.false;
       within = c.if-darts-s.false;
-    } in h1) _ c.bodies_fit.ensures (ap not c.if-not-bodies_fit.false) (ap not c.if-not-positions_fall.false) (ap not c.if-not-positions_past.false) _ c.entries_fit.ensures
+    } in
+    walk_entries _ _ _ c.positions_fall.ensures _ c.positions_past.ensures
+    sized _ c.bodies_fit.ensures (ap not c.if-not-bodies_fit.false) (ap not c.if-not-positions_fall.false) (ap not c.if-not-positions_past.false) _ c.entries_fit.ensures

@@ -5,11 +5,16 @@ use Rattle.pen.proofs.Laws.{put_new, put_border, index_small, put_index}
 use Rattle.pen.proofs.put_symbol.Goals as goal
 
 pub overflow_add-e : goal.overflow_add-e
-overflow_add-e c = omega (arith, (let h1 : c.in-Index.e.0 < 4096 = index_small _ c.in-Index.is c.requires.1 in h1))
+overflow_add-e c =
+    let small : c.in-Index.e.0 < 4096 =
+        index_small _ c.in-Index.is c.requires.1 in
+    omega (arith, small)
 
 pub put_number-requires : goal.put_number-requires
 put_number-requires c =
-    (c.requires.0, omega arith, omega arith, omega (arith, (let h2 : c.in-Index.e.0 < 4096 = index_small _ c.in-Index.is c.requires.1 in h2)))
+    let small : c.in-Index.e.0 < 4096 =
+        index_small _ c.in-Index.is c.requires.1 in
+    (c.requires.0, omega arith, omega arith, omega (arith, small))
 
 pub returns-in-New : goal.returns-in-New
 returns-in-New c = put_new c.in-New.is c.put_few.ensures

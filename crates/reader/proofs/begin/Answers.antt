@@ -39,15 +39,23 @@ returns-then-tables-size c =
 
 pub go_on-requires : goal.go_on-requires
 go_on-requires c =
-    begin_ready _ _ _ _ _ _ (let h1 : (1 ≤ c.args.first / 16 % 8) × (c.args.first / 16 % 8 ≤ 6) = (omega arith, omega arith) in h1) (let h2 : let a_2 = c.args in (1 ≤ a_2.first % 16 * 256 + a_2.second + 1) × (a_2.first % 16 * 256 + a_2.second + 1 ≤ 4096) = (omega arith, omega arith) in h2) _ c.blank.ensures c.requires
+    let dims : (1 ≤ c.args.first / 16 % 8) × (c.args.first / 16 % 8 ≤ 6) =
+        (omega arith, omega arith) in
+    let darts : let a = c.args in (1 ≤ a.first % 16 * 256 + a.second + 1) × (a.first % 16 * 256 + a.second + 1 ≤ 4096) =
+        (omega arith, omega arith) in
+    begin_ready _ _ _ _ _ _ dims darts _ c.blank.ensures c.requires
 
 pub returns : goal.returns
 unfolding headed dim_of
 returns c =
+    let dims : (1 ≤ c.args.first / 16 % 8) × (c.args.first / 16 % 8 ≤ 6) =
+        (omega arith, omega arith) in
+    let darts : let a = c.args in (1 ≤ a.first % 16 * 256 + a.second + 1) × (a.first % 16 * 256 + a.second + 1 ≤ 4096) =
+        (omega arith, omega arith) in
     let r = c.go_on.ensures in
     record {
       left = begin_walk _ _ _ _ _ _ _ _ _ _ (begin_blank _ _ _ _ c.blank.ensures) _ c.form_of-form.ensures r.left
-          (fresh_hand _ _) (let h3 : (1 ≤ c.args.first / 16 % 8) × (c.args.first / 16 % 8 ≤ 6) = (omega arith, omega arith) in h3) (let h4 : let a_4 = c.args in (1 ≤ a_4.first % 16 * 256 + a_4.second + 1) × (a_4.first % 16 * 256 + a_4.second + 1 ≤ 4096) = (omega arith, omega arith) in h4)
+          (fresh_hand _ _) dims darts
           (rw (size_is _ _) at c.if-tables-size.false);
       fetch = r.fetch;
     }

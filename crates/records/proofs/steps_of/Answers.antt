@@ -1,10 +1,11 @@
 -- `records::steps_of` meets its contract: the sum so far and the sum of what is left are the whole. Assumes nothing.
-use Prim.Native.Nat.{◌<◌}
+use Prim.Native.Nat.{ℕ, ◌<◌, ◌-◌}
 use mathlib.Core.Path.{◌≡◌}
 use native.Mathlib.Omega.{arith}
 use mir.Syntax.{w16, w32}
 use lib.ListN.{length, get_or}
 use borrow.Author.Rules.{elem_Fits}
+use Rattle.rules.specs.Lists as list
 use Rattle.records.proofs.Fills.{sum_on, sum_over}
 use Rattle.records.proofs.steps_of.Goals as goal
 
@@ -22,7 +23,9 @@ overflow_cast-sum c = elem_Fits w16 w32 c.args.positions c.well_formed.0.0 c.loo
 
 pub overflow_add-sum : goal.overflow_add-sum
 overflow_add-sum c =
-    omega (arith, (let h1 : get_or c.args.positions c.loop-i.i 0 < 65536 = (elem_Fits w16 w16 c.args.positions c.well_formed.0.0 c.loop-i.i c.well_formed.0.1.1 tt).fits in h1))
+    let small : (i : ℕ) → get_or c.args.positions i 0 < 65536 =
+        λ i. (elem_Fits w16 w16 c.args.positions c.well_formed.0.0 i c.well_formed.0.1.1 tt).fits in
+    omega (arith, small c.loop-i.i)
 
 pub overflow_add-i : goal.overflow_add-i
 overflow_add-i c = omega arith
@@ -32,10 +35,16 @@ loop-i-smaller c = omega arith
 
 pub loop-i-preserved : goal.loop-i-preserved
 loop-i-preserved c =
+    let seven : length c.args.positions ≡ 7 =
+        c.well_formed.0.1.0.1 in
+    let small : (i : ℕ) → get_or c.args.positions i 0 < 65536 =
+        λ i. (elem_Fits w16 w16 c.args.positions c.well_formed.0.0 i c.well_formed.0.1.1 tt).fits in
     let i = c.loop-i.i in
-    let x = sum_on c.args.positions i (omega (arith, (let h2 : length c.args.positions ≡ 7 = c.well_formed.0.1.0.1 in h2))) in
-    (omega arith, omega (arith, (let h3 : get_or c.args.positions i 0 < 65536 = (elem_Fits w16 w16 c.args.positions c.well_formed.0.0 i c.well_formed.0.1.1 tt).fits in h3)), omega (arith, x))
+    let x = sum_on c.args.positions i (omega (arith, seven)) in
+    (omega arith, omega (arith, small i), omega (arith, x))
 
 pub returns : goal.returns
 returns c =
-    omega (arith, sum_over c.args.positions c.loop-i.i (omega (arith, (let h4 : length c.args.positions ≡ 7 = c.well_formed.0.1.0.1 in h4))))
+    let seven : length c.args.positions ≡ 7 =
+        c.well_formed.0.1.0.1 in
+    omega (arith, sum_over c.args.positions c.loop-i.i (omega (arith, seven)))

@@ -1,5 +1,5 @@
 -- `report::tally_at` meets its contract: after d turns the links of the first d darts are counted with those of the ranks below. Assumes nothing.
-use Prim.Native.Nat.{ℕ, ◌+◌, ◌*◌, ◌≤◌, ◌<◌}
+use Prim.Native.Nat.{ℕ, ◌+◌, ◌*◌, ◌-◌, ◌≤◌, ◌<◌}
 use mathlib.Core.Path.{◌≡◌, ap, ◌∙◌}
 use native.Mathlib.Omega.{arith}
 use native.Mathlib.Nat.{mul-le-mul}
@@ -29,24 +29,22 @@ bounds-tables-place c =
 
 pub overflow_cast-x : goal.overflow_cast-x
 overflow_cast-x c =
-    omega (
-      arith,
-      (let h1 : let a_1 = c.args in get_or a_1.tables.now c.place.result 0 < a_1.darts = let p_1 = c.requires in
-          let e_1 = ap (λ (x : ℕ). get_or c.args.tables.now x 0) c.place.ensures in
-          entry_below _ _ _ c.args.work.now _ _ _ p_1.0 p_1.3 c.loop-d-test.true e_1 p_1.1 in h1),
-    )
+    let read_below : let a = c.args in get_or a.tables.now c.place.result 0 < a.darts =
+        let p = c.requires in
+    let e = ap (λ (x : ℕ). get_or c.args.tables.now x 0) c.place.ensures in
+    entry_below _ _ _ c.args.work.now _ _ _ p.0 p.3 c.loop-d-test.true e p.1 in
+    omega (arith, read_below)
 
 pub overflow_add-free : goal.overflow_add-free
 overflow_add-free c =
-    omega (
-      arith,
-      (let h2 : (c.loop-d.alike < 65535) × (c.loop-d.free < 65535) = let a_2 = c.args in
-          let p_2 = c.requires in
-          let (x_2, y_2) = counted_le c.loop-d.invariant.1 in
-          let r_2 : a_2.rank ≤ 6 = omega (arith, p_2.3, p_2.0.dims.1) in
-          let b_2 : a_2.rank * a_2.darts ≤ 6 * 4096 = mul-le-mul {n₁ = a_2.rank} {m₁ = a_2.darts} {n₂ = 6} {m₂ = 4096} r_2 p_2.0.darts.1 in
-          (omega (arith, x_2, p_2.0.darts.1), omega (arith, y_2, p_2.0.darts.1)) in h2).1,
-    )
+    let few : (c.loop-d.alike < 65535) × (c.loop-d.free < 65535) =
+        let a = c.args in
+    let p = c.requires in
+    let (x, y) = counted_le c.loop-d.invariant.1 in
+    let r : a.rank ≤ 6 = omega (arith, p.3, p.0.dims.1) in
+    let b : a.rank * a.darts ≤ 6 * 4096 = mul-le-mul {n₁ = a.rank} {m₁ = a.darts} {n₂ = 6} {m₂ = 4096} r p.0.darts.1 in
+    (omega (arith, x, p.0.darts.1), omega (arith, y, p.0.darts.1)) in
+    omega (arith, few.1)
 
 pub offset_bounds-work-d : goal.offset_bounds-work-d
 offset_bounds-work-d c = omega arith
@@ -56,33 +54,30 @@ bounds-work-d c = omega arith
 
 pub offset_bounds-work-x : goal.offset_bounds-work-x
 offset_bounds-work-x c =
-    omega (
-      arith,
-      (let h3 : let a_3 = c.args in get_or a_3.tables.now c.place.result 0 < a_3.darts = let p_3 = c.requires in
-          let e_3 = ap (λ (x : ℕ). get_or c.args.tables.now x 0) c.place.ensures in
-          entry_below _ _ _ c.args.work.now _ _ _ p_3.0 p_3.3 c.loop-d-test.true e_3 p_3.1 in h3),
-    )
+    let read_below : let a = c.args in get_or a.tables.now c.place.result 0 < a.darts =
+        let p = c.requires in
+    let e = ap (λ (x : ℕ). get_or c.args.tables.now x 0) c.place.ensures in
+    entry_below _ _ _ c.args.work.now _ _ _ p.0 p.3 c.loop-d-test.true e p.1 in
+    omega (arith, read_below)
 
 pub bounds-work-x : goal.bounds-work-x
 bounds-work-x c =
-    omega (
-      arith,
-      (let h4 : let a_4 = c.args in get_or a_4.tables.now c.place.result 0 < a_4.darts = let p_4 = c.requires in
-          let e_4 = ap (λ (x : ℕ). get_or c.args.tables.now x 0) c.place.ensures in
-          entry_below _ _ _ c.args.work.now _ _ _ p_4.0 p_4.3 c.loop-d-test.true e_4 p_4.1 in h4),
-    )
+    let read_below : let a = c.args in get_or a.tables.now c.place.result 0 < a.darts =
+        let p = c.requires in
+    let e = ap (λ (x : ℕ). get_or c.args.tables.now x 0) c.place.ensures in
+    entry_below _ _ _ c.args.work.now _ _ _ p.0 p.3 c.loop-d-test.true e p.1 in
+    omega (arith, read_below)
 
 pub overflow_add-alike : goal.overflow_add-alike
 overflow_add-alike c =
-    omega (
-      arith,
-      (let h5 : (c.loop-d.alike < 65535) × (c.loop-d.free < 65535) = let a_5 = c.args in
-          let p_5 = c.requires in
-          let (x_5, y_5) = counted_le c.loop-d.invariant.1 in
-          let r_5 : a_5.rank ≤ 6 = omega (arith, p_5.3, p_5.0.dims.1) in
-          let b_5 : a_5.rank * a_5.darts ≤ 6 * 4096 = mul-le-mul {n₁ = a_5.rank} {m₁ = a_5.darts} {n₂ = 6} {m₂ = 4096} r_5 p_5.0.darts.1 in
-          (omega (arith, x_5, p_5.0.darts.1), omega (arith, y_5, p_5.0.darts.1)) in h5).0,
-    )
+    let few : (c.loop-d.alike < 65535) × (c.loop-d.free < 65535) =
+        let a = c.args in
+    let p = c.requires in
+    let (x, y) = counted_le c.loop-d.invariant.1 in
+    let r : a.rank ≤ 6 = omega (arith, p.3, p.0.dims.1) in
+    let b : a.rank * a.darts ≤ 6 * 4096 = mul-le-mul {n₁ = a.rank} {m₁ = a.darts} {n₂ = 6} {m₂ = 4096} r p.0.darts.1 in
+    (omega (arith, x, p.0.darts.1), omega (arith, y, p.0.darts.1)) in
+    omega (arith, few.0)
 
 pub overflow_add-d : goal.overflow_add-d
 overflow_add-d c = omega arith

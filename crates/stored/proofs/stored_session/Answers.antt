@@ -7,5 +7,7 @@ use Rattle.stored.proofs.stored_session.Goals as goal
 -- behind the six fields that are read last stand the three calls on the state, and behind these the form and the positions
 pub returns : goal.returns
 returns c =
-    stored_by c.args.s (let h1 : length c.args.s.positions ≡ 7 = c.well_formed.0.1.1.1.1.1.1.0.1.0.1 in h1) _ c.stored_positions-p.ensures _ _ _ _
+    let seven-given : length c.args.s.positions ≡ 7 =
+        c.well_formed.0.1.1.1.1.1.1.0.1.0.1 in
+    stored_by c.args.s seven-given _ c.stored_positions-p.ensures _ _ _ _
     c.state_number.ensures c.refusal_number.ensures c.refusal_place.ensures c.form_number-f.ensures

@@ -43,42 +43,35 @@ returns-then-whole-eq2 c =
 
 pub missing-requires : goal.missing-requires
 missing-requires c =
-    let o = (let h1 : let a_1 = c.args in
-    Holds a_1.self c.waits-waits.result a_1.page.now = c.waits-waits.ensures _ c.requires in h1) in (
-      head_small o.fits,
-      omega (
-        arith,
-        (let h2 : let a_2 = c.args.self in
-            a_2.waiting < size (bits_of a_2.waiting a_2.value) = let e_2 = c.whole-whole.ensures in
-            waits_none c.requires (λ q_2. c.if-whole-eq1.false (e_2 ∙ q_2)) (λ q_2. c.if-whole-eq2.false (e_2 ∙ q_2)) in h2),
-        (let h3 : let a_3 = c.args.self in
-            size (bits_of 24 c.waits-waits.result.head) ≡ size (bits_of a_3.waiting a_3.value) = let o_3 = (let h4 : let a_4 = c.args in
-            Holds a_4.self c.waits-waits.result a_4.page.now = c.waits-waits.ensures _ c.requires in h4) in head_size o_3.fits ∙ ap size o_3.held in h3),
-        o.bits,
-      ),
-    )
+    let waiting : let a = c.args in Holds a.self c.waits-waits.result a.page.now =
+        c.waits-waits.ensures _ c.requires in
+    let fewer : let a = c.args.self in a.waiting < size (bits_of a.waiting a.value) =
+        let e = c.whole-whole.ensures in
+    waits_none c.requires (λ q. c.if-whole-eq1.false (e ∙ q)) (λ q. c.if-whole-eq2.false (e ∙ q)) in
+    let told : let a = c.args.self in size (bits_of 24 c.waits-waits.result.head) ≡ size (bits_of a.waiting a.value) =
+        let o = waiting in head_size o.fits ∙ ap size o.held in
+    let o = waiting in
+    (head_small o.fits, omega (arith, fewer, told, o.bits))
 
 pub returns-then-page-at-2 : goal.returns-then-page-at-2
 unfolding Starts
 returns-then-page-at-2 c =
+    let waiting : let a = c.args in Holds a.self c.waits-waits.result a.page.now =
+        c.waits-waits.ensures _ c.requires in
+    let fewer : let a = c.args.self in a.waiting < size (bits_of a.waiting a.value) =
+        let e = c.whole-whole.ensures in
+    waits_none c.requires (λ q. c.if-whole-eq1.false (e ∙ q)) (λ q. c.if-whole-eq2.false (e ∙ q)) in
+    let told : let a = c.args.self in size (bits_of 24 c.waits-waits.result.head) ≡ size (bits_of a.waiting a.value) =
+        let o = waiting in head_size o.fits ∙ ap size o.held in
     let m : c.missing.result + c.args.self.waiting ≡ size (bits_of c.args.self.waiting c.args.self.value) =
-    omega (
-      arith,
-      c.missing.ensures,
-      (let h7 : let a_7 = c.args.self in
-          size (bits_of 24 c.waits-waits.result.head) ≡ size (bits_of a_7.waiting a_7.value) = let o_7 = (let h8 : let a_8 = c.args in
-          Holds a_8.self c.waits-waits.result a_8.page.now = c.waits-waits.ensures _ c.requires in h8) in head_size o_7.fits ∙ ap size o_7.held in h7),
-      (let h5 : let a_5 = c.args in
-          Holds a_5.self c.waits-waits.result a_5.page.now = c.waits-waits.ensures _ c.requires in h5).bits,
-    ) in
-    waits_short c.requires _ (let h6 : let a_6 = c.args.self in
-    a_6.waiting < size (bits_of a_6.waiting a_6.value) = let e_6 = c.whole-whole.ensures in
-    waits_none c.requires (λ q_6. c.if-whole-eq1.false (e_6 ∙ q_6)) (λ q_6. c.if-whole-eq2.false (e_6 ∙ q_6)) in h6) m c.if-page-at-2.true
+    omega (arith, c.missing.ensures, told, waiting.bits) in
+    waits_short c.requires _ fewer m c.if-page-at-2.true
 
 pub then-requires : goal.then-requires
 then-requires c =
-    let o = (let h9 : let a_9 = c.args in
-    Holds a_9.self c.waits-waits.result a_9.page.now = c.waits-waits.ensures _ c.requires in h9) in
+    let waiting : let a = c.args in Holds a.self c.waits-waits.result a.page.now =
+        c.waits-waits.ensures _ c.requires in
+    let o = waiting in
     let l = c.here-here.ensures in
     let few = c.requires.few in
     let m = o.bits in
@@ -90,9 +83,11 @@ then-requires c =
 pub returns : goal.returns
 unfolding Starts
 returns c =
-    let o = (let h10 : let a_10 = c.args in
-    Holds a_10.self c.waits-waits.result a_10.page.now = c.waits-waits.ensures _ c.requires in h10) in
+    let waiting : let a = c.args in Holds a.self c.waits-waits.result a.page.now =
+        c.waits-waits.ensures _ c.requires in
+    let fewer : let a = c.args.self in a.waiting < size (bits_of a.waiting a.value) =
+        let e = c.whole-whole.ensures in
+    waits_none c.requires (λ q. c.if-whole-eq1.false (e ∙ q)) (λ q. c.if-whole-eq2.false (e ∙ q)) in
+    let o = waiting in
     let l = c.here-here.ensures in
-    behind_starts c.args.self c.requires c.if-page-at-2.false l (let h11 : let a_11 = c.args.self in
-    a_11.waiting < size (bits_of a_11.waiting a_11.value) = let e_11 = c.whole-whole.ensures in
-    waits_none c.requires (λ q_11. c.if-whole-eq1.false (e_11 ∙ q_11)) (λ q_11. c.if-whole-eq2.false (e_11 ∙ q_11)) in h11) o (c.then.ensures _ o.fits l.fits)
+    behind_starts c.args.self c.requires c.if-page-at-2.false l fewer o (c.then.ensures _ o.fits l.fits)

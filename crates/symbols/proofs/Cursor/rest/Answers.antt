@@ -1,4 +1,5 @@
 -- `symbols::Cursor::rest` meets its contract: the hand holds the first of the bits at hand, and at the page's end all. Assumes nothing.
+use Prim.Native.Nat.{◌-◌}
 use mathlib.Core.Path.{ap, sym, ◌∙◌}
 use native.Mathlib.Omega.{arith}
 use lib.ListN.{length}
@@ -13,7 +14,9 @@ loop-hand-init c = λ d i. i
 
 pub loaded-hand-requires : goal.loaded-hand-requires
 loaded-hand-requires c =
-    let i = (let h1 : let a_1 = c.args in InHand a_1.self c.loop-hand.hand a_1.page.now = c.loop-hand.invariant _ c.hand-hand.ensures in h1) in (i.fits, omega (arith, held_hand i), c.loop-hand-test.true, omega arith)
+    let first : let a = c.args in InHand a.self c.loop-hand.hand a.page.now =
+        c.loop-hand.invariant _ c.hand-hand.ensures in
+    let i = first in (i.fits, omega (arith, held_hand i), c.loop-hand-test.true, omega arith)
 
 pub loop-hand-smaller : goal.loop-hand-smaller
 loop-hand-smaller c = omega (arith, c.loaded-hand.ensures.at)
@@ -23,18 +26,26 @@ loop-hand-preserved c = λ d i. more_hand c.loaded-hand.ensures c.loop-hand-test
 
 pub overflow_cast-result : goal.overflow_cast-result
 overflow_cast-result c =
-    omega (arith, (let h2 : let a_2 = c.args in InHand a_2.self c.loop-hand.hand a_2.page.now = c.loop-hand.invariant _ c.hand-hand.ensures in h2).fits.few)
+    let first : let a = c.args in InHand a.self c.loop-hand.hand a.page.now =
+        c.loop-hand.invariant _ c.hand-hand.ensures in
+    omega (arith, first.fits.few)
 
 pub overflow_sub-result : goal.overflow_sub-result
 overflow_sub-result c =
-    (let h3 : let a_3 = c.args in InHand a_3.self c.loop-hand.hand a_3.page.now = c.loop-hand.invariant _ c.hand-hand.ensures in h3).fits.few
+    let first : let a = c.args in InHand a.self c.loop-hand.hand a.page.now =
+        c.loop-hand.invariant _ c.hand-hand.ensures in
+    (first).fits.few
 
 pub overflow_cast-result-2 : goal.overflow_cast-result-2
 overflow_cast-result-2 c =
-    let i = (let h4 : let a_4 = c.args in InHand a_4.self c.loop-hand.hand a_4.page.now = c.loop-hand.invariant _ c.hand-hand.ensures in h4) in omega (arith, head_few i.fits (omega (arith, held_hand i)))
+    let first : let a = c.args in InHand a.self c.loop-hand.hand a.page.now =
+        c.loop-hand.invariant _ c.hand-hand.ensures in
+    let i = first in omega (arith, head_few i.fits (omega (arith, held_hand i)))
 
 pub returns : goal.returns
 returns c =
-    let i = (let h5 : let a_5 = c.args in InHand a_5.self c.loop-hand.hand a_5.page.now = c.loop-hand.invariant _ c.hand-hand.ensures in h5) in
+    let first : let a = c.args in InHand a.self c.loop-hand.hand a.page.now =
+        c.loop-hand.invariant _ c.hand-hand.ensures in
+    let i = first in
     let e = all_held i c.loop-hand-test.false in
     (sym (ap length e ∙ length_held i.fits), sym (ap value e ∙ sym (head_value i.fits)))

@@ -1,13 +1,13 @@
 -- `symbols::Cursor::take_symbol` meets its contract: as the symbol begins, and out of the hand where it begins in one. Assumes nothing.
 use Rattle.symbols.specs.Hands.{Needed, Reads, Starts}
-use Rattle.symbols.specs.Hands.{Starts}
 use Rattle.symbols.proofs.Cursor.take_symbol.Goals as goal
 
 pub take-requires : goal.take-requires
 unfolding Starts
 take-requires c =
-    let (n, r) = (let h1 : let a_1 = c.args in
-    let h_1 = c.in-Is.hand in Needed h_1 × Reads a_1.self h_1 a_1.page.now = rw c.in-Is.is at c.first.ensures in h1) in (r.in_hand.fits, n)
+    let begun : let a = c.args in let h = c.in-Is.hand in Needed h × Reads a.self h a.page.now =
+        rw c.in-Is.is at c.first.ensures in
+    let (n, r) = begun in (r.in_hand.fits, n)
 
 pub returns-in-Out : goal.returns-in-Out
 unfolding Starts
@@ -24,5 +24,6 @@ returns-in-Border c = rw c.in-Border.is at c.first.ensures
 pub returns-in-Is : goal.returns-in-Is
 unfolding Starts
 returns-in-Is c =
-    c.take.ensures _ (let h2 : let a_2 = c.args in
-    let h_2 = c.in-Is.hand in Needed h_2 × Reads a_2.self h_2 a_2.page.now = rw c.in-Is.is at c.first.ensures in h2).1
+    let begun : let a = c.args in let h = c.in-Is.hand in Needed h × Reads a.self h a.page.now =
+        rw c.in-Is.is at c.first.ensures in
+    c.take.ensures _ begun.1
