@@ -54,8 +54,8 @@ count_along() {
   done
 }
 
-# prove VERB CRATE LOG COUNT: `rt VERB` in a crate's folder, with what it says in a log, and counting how many crates are
-# done. `rt run` runs the program too, on the crate's own stdin.
+# prove VERB CRATE LOG COUNT: `rt VERB` in a crate's folder, with what it says in a log, and counting how many crates
+# are done. `rt run` runs the program too, on the crate's own stdin.
 prove() {
   local status=0 began=$SECONDS counter input=$root/crates/$2/stdin
   [ -f "$input" ] || input=/dev/null
@@ -72,9 +72,9 @@ prove() {
   return "$status"
 }
 
-# bring WHAT VERB CRATE FILE: makes crates/CRATE/out/FILE by `rt VERB`, unless it is there and as young as all that it is
-# made of; `product` is its path. The toolchain proves again what has changed, and first whatever is not proved here yet:
-# after the gate in a new clone, say, which leaves the program but neither the library nor a check's work.
+# bring WHAT VERB CRATE FILE: makes crates/CRATE/out/FILE by `rt VERB`, unless it is there and as young as all that it
+# is made of; `product` is its path. The toolchain proves again what has changed, and first whatever is not proved here
+# yet: after the gate in a new clone, say, which leaves the program but neither the library nor a check's work.
 bring() {
   local what=$1 verb=$2 crate=$3 log=$root/target/$3.log start=$root/target/$3.start
   local name all touched='' stale
