@@ -1,5 +1,5 @@
 -- `fitness::rank_passed` meets its contract: `bad` counts the darts before d that have no link of the rank. Assumes nothing.
-use Prim.Native.Nat.{◌-◌, ◌<◌}
+use Prim.Native.Nat.{◌<◌}
 use native.Mathlib.Omega.{arith}
 use lib.ListN.{length}
 use Rattle.tables.proofs.Laws.{place_within}

@@ -1,11 +1,10 @@
 -- `records::steps_of` meets its contract: the sum so far and the sum of what is left are the whole. Assumes nothing.
-use Prim.Native.Nat.{ℕ, ◌<◌, ◌-◌}
+use Prim.Native.Nat.{ℕ, ◌<◌}
 use mathlib.Core.Path.{◌≡◌}
 use native.Mathlib.Omega.{arith}
 use mir.Syntax.{w16, w32}
 use lib.ListN.{length, get_or}
 use borrow.Author.Rules.{elem_Fits}
-use Rattle.rules.specs.Lists as list
 use Rattle.records.proofs.Fills.{sum_on, sum_over}
 use Rattle.records.proofs.steps_of.Goals as goal
 

@@ -1,6 +1,6 @@
 -- `walk::number_rest` meets its contract: at each turn all queues are empty and every dart before the next has a number. A turn goes past a dart that has one,
 -- or begins a body with one that has none. Assumes nothing.
-use Prim.Native.Nat.{◌+◌, ◌-◌, ◌≤◌, ◌<◌}
+use Prim.Native.Nat.{◌+◌, ◌≤◌, ◌<◌}
 use mathlib.Core.Path.{◌≡◌, refl, sym, ◌∙◌}
 use native.Mathlib.Omega.{arith}
 use lib.ListN.{get_or}

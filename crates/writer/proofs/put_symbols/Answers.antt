@@ -1,6 +1,6 @@
 -- `writer::put_symbols` meets its contract: before each turn a body is begun, and what was put are the codes of the symbols of the bodies before it; at the end
 -- none is due. Assumes nothing.
-use Prim.Native.Nat.{ℕ, ◌+◌, ◌-◌, ◌<◌}
+use Prim.Native.Nat.{ℕ, ◌+◌, ◌<◌}
 use mathlib.Core.Path.{◌≡◌, refl, sym, ◌∙◌}
 use mathlib.Core.Bool.{Bool, true, false}
 use native.Mathlib.Omega.{arith}

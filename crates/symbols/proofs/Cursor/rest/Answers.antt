@@ -1,5 +1,4 @@
 -- `symbols::Cursor::rest` meets its contract: the hand holds the first of the bits at hand, and at the page's end all. Assumes nothing.
-use Prim.Native.Nat.{◌-◌}
 use mathlib.Core.Path.{ap, sym, ◌∙◌}
 use native.Mathlib.Omega.{arith}
 use lib.ListN.{length}
