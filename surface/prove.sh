@@ -45,6 +45,9 @@ changed() {
 # proved_in LOG: of how many crates a log says that they are proved. Of those whose proof stands still it says nothing.
 proved_in() { grep -c '^logic=proved ' "$1" || true; }
 
+# about SECONDS, in words.
+about() { if [ "$1" -lt 90 ]; then echo "$1 seconds"; else echo "$((($1 + 30) / 60)) minutes"; fi; }
+
 # count_along LOG ALL: on a terminal, one line that says every second how far the proofs are, until it is killed.
 count_along() {
   local began=$SECONDS
@@ -87,7 +90,7 @@ bring() {
   [ -n "$touched" ] || return 0
   find_rt
   mapfile -t stale < <(needs "$crate" "$touched")
-  say "building $what: ${#stale[@]} of ${#all[@]} crates to prove" >&2
+  say "building $what: ${#stale[@]} of ${#all[@]} crates to prove, about $(about $((12 * ${#stale[@]})))" >&2
   mkdir -p "$root/target"
   : >"$start"
   prove "$verb" "$crate" "$log" "${#all[@]}" || stop "$what could not be proved and built: see ${log#"$root"/}"

@@ -221,7 +221,7 @@ proves_when_needed() {
   made 0
   : >fault
   ends 2 ./run lone
-  said err '^run: building the listing program: 16 of 16 crates to prove$'
+  said err '^run: building the listing program: 16 of 16 crates to prove, about 3 minutes$'
   said err 'could not be proved and built: see target/list.log$'
   said_no out
   grep -q 'not-proved' target/list.log || stop "the log has not what rt said"
@@ -237,7 +237,7 @@ proves_when_needed() {
   made 0
   touch crates/listing/src/lib.rt
   ends 0 ./run lone
-  said err '^run: building the listing program: 2 of 16 crates to prove$'
+  said err '^run: building the listing program: 2 of 16 crates to prove, about 24 seconds$'
   made 1
   ends 0 ./run lone
   made 0
@@ -248,16 +248,16 @@ proves_when_needed() {
   made 0
   touch crates.txt
   ends 0 ./run lone
-  said err '^run: building the listing program: 16 of 16 crates to prove$'
+  said err '^run: building the listing program: 16 of 16 crates to prove, about 3 minutes$'
   made 1
   : >meanwhile
   rm crates/counts/proofs/Lib.antt # what is gone is a change too
   ends 0 ./run lone
-  said err '^run: building the listing program: 3 of 16 crates to prove$'
+  said err '^run: building the listing program: 3 of 16 crates to prove, about 36 seconds$'
   made 1
   rm meanwhile
   ends 0 ./run lone # words has changed while the last was built
-  said err '^run: building the listing program: 3 of 16 crates to prove$'
+  said err '^run: building the listing program: 3 of 16 crates to prove, about 36 seconds$'
   made 1
   ends 0 ./run lone
   said_no err

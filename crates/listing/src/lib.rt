@@ -148,7 +148,7 @@ pub fn put_refusal(out: &mut [u8], number: u32, place: u32) -> usize
 // The text of a listing: what was read and its report, or the refusal of either.
 pub fn put(out: &mut [u8], a: ReadAnswer, r: ReportAnswer, tables: &[u16]) -> usize
     requires { (r.number ≡ 0 → Limits a.dim a.darts tables.now) × (688407 ≤ length out.old) }
-    ensures fact { let text = listing a r tables.now in
+    ensures listed { let text = listing a r tables.now in
         (result ≡ length text) × (out.new ≡ begun text out.old) }
     ensures prefix_len { IsPrefixLen result out.new }
 {

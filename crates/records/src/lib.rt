@@ -108,7 +108,8 @@ pub fn steps_of(positions: [u16; 7]) -> u32
 
 // Refused: the state keeps number and place, and every other number of the record is 0.
 pub fn refused(number: u32, place: u32) -> Paged
-    ensures { (result.session ≡ idle_by (State.Refused number place) 0 0) × (result.answer ≡ plain_answer number place) }
+    ensures { (result.session ≡ idle_by (State.Refused number place) 0 0)
+        × (result.answer ≡ plain_answer number place) }
 {
     let session = idle(State::Refused(number, place), 0, 0);
     let answer = plain(number, place);

@@ -1,6 +1,6 @@
 -- Document 02, E10: "For every N and n, show that the new tables are the old with places exchanged, and that streams, answers and reports agree but for the
--- places of 6 and 7. These keep their test order, rank then dart; the place is the new position." Of any two layouts Y and Z: from Y = byRank, the old tables,
--- to Z = byDart, the new ones, and back. Rests on Layouts, Casts, Follows, Past and Fetch.
+-- places of 6 and 7. These keep their test order, rank then dart; the place is the new position." Of any two layouts Y and Z: from Y = by_rank, the old tables,
+-- to Z = by_dart, the new ones, and back. Rests on Layouts, Casts, Follows, Past and Fetch.
 use Prim.Native.Nat.{ℕ, ◌+◌, ◌-◌, ◌≤◌, ◌<◌}
 use mathlib.Core.Path.{◌≡◌, refl, ap, sym, ◌∙◌}
 use mathlib.Core.Bool.{Bool, true, false}
