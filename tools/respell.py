@@ -137,9 +137,6 @@ def main():
         new = rust(text, turn)
         if new != text:
             open(path, "w").write(new)
-    with open("/tmp/respelled.tsv", "w") as f:
-        for a, b in sorted(turn.items()):
-            f.write(f"{a}\t{b}\n")
     pages = ["README.md", "CONTRIBUTING.md"] + sorted(os.path.join("docs", f) for f in os.listdir("docs"))
     for path in pages:
         text = open(path).read()
