@@ -169,11 +169,12 @@ test_off() {
 
 # When ./run proves and builds, and what it says then, in a copy of the repository with a stand-in for rt: it takes two
 # crates for proved, and the program for built, unless there is a file `fault`; with a file `meanwhile` a crate changes
-# while it works. The copy lies outside the repository, where the gate takes no .rt or .antt for its own.
+# while it works, a moment after the start: a file's time does not tell two changes of one clock tick apart. The copy
+# lies outside the repository, where the gate takes no .rt or .antt for its own.
 test_run() {
   local copy tool crate part
   copy=$(mktemp -d)
-  trap 'rm -rf "$copy"' EXIT
+  trap "rm -rf '$copy'" EXIT # by its name: the variable is gone where a test stops
   mkdir -p "$copy/kit" "$copy/tools" "$copy/crates"
   cp -r "$root/crates.txt" "$root/run" "$root/surface" "$copy"
   for crate in "$root"/crates/*/; do
@@ -188,7 +189,7 @@ test_run() {
 echo "\$* in \${PWD##*/}" >>'$copy/calls'
 [ ! -f '$copy/fault' ] || { echo 'logic=not-proved'; exit 1; }
 for crate in rules tables; do echo 'logic=proved functions=1'; done
-[ ! -f '$copy/meanwhile' ] || touch ../words/src/lib.rt
+[ ! -f '$copy/meanwhile' ] || { sleep 0.1; touch ../words/src/lib.rt; }
 mkdir -p out
 cp '$program' out/list
 END
