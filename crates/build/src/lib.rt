@@ -2,32 +2,11 @@
 // many corners of its face are left with it.
 #![tactic(auto)]
 
-ghost use Rattle.std.specs.Prelude.{◌≡◌, cond, ◌+◌, ◌*◌, ◌-◌, ◌≤◌, ◌<◌, eqb, length};
+ghost use Rattle.std.specs.Prelude.{◌≡◌, ◌+◌, ◌*◌, ◌≤◌, ◌<◌, length};
 ghost use Rattle.build.specs.Parts.{joined_at, six_put, Lefts, Builds};
 
 // The most corners of a map.
 const CORNERS: u16 = 2048;
-
-// The corner before corner k of a face, and the one after it: so many corners of the face are left with k.
-fn before(first: usize, k: usize, left: usize) -> usize
-    requires { (first ≤ k) × (1 ≤ left) × (k + left ≤ 2048) }
-    ensures { (result ≡ cond (eqb k first) (k + left - 1) (k - 1)) × (result < 2048) }
-{
-    if k == first {
-        return k + left - 1;
-    }
-    k - 1
-}
-
-fn after(first: usize, k: usize, left: usize) -> usize
-    requires { (first ≤ k) × (1 ≤ left) × (k + left ≤ 2048) }
-    ensures { (result ≡ cond (eqb left 1) first (k + 1)) × (result < 2048) }
-{
-    if left == 1 {
-        return first;
-    }
-    k + 1
-}
 
 // a2 of a corner's own dart, and of its far one.
 #[derive(Clone, Copy)]
@@ -75,17 +54,6 @@ fn put(tables: &mut [u16], k: usize, before: usize, after: usize, e: Joined)
     tables[p + 5] = e.far as u16;
 }
 
-// The first corner of the next corner's face.
-fn next_first(first: usize, k: usize, left: usize) -> usize
-    requires { k < 2048 }
-    ensures { result ≡ cond (eqb left 1) (k + 1) first }
-{
-    if left == 1 {
-        return k + 1;
-    }
-    first
-}
-
 // The map, corner by corner, out of what was kept of them.
 pub fn build(
     corners: usize,
@@ -99,13 +67,16 @@ pub fn build(
         tables.new }
 {
     let mut first: usize = 0;
-    let mut k: usize = 0;
-    while k < corners {
+    for k in 0..corners {
         let left = lefts[k] as usize;
-        let b = before(first, k, left);
-        let a = after(first, k, left);
-        put(tables, k, b, a, ends(owns, twins, k));
-        first = next_first(first, k, left);
-        k += 1;
+        let before = if k == first { k + left - 1 } else { k - 1 };
+        // A face's last corner leads back to its first, and the next face begins after it.
+        let (after, next) = if left == 1 {
+            (first, k + 1)
+        } else {
+            (k + 1, first)
+        };
+        put(tables, k, before, after, ends(owns, twins, k));
+        first = next;
     }
 }

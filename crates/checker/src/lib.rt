@@ -2,137 +2,150 @@
 // the bodies that the form wants.
 #![tactic(auto)]
 
-ghost use Rattle.std.specs.Prelude.{◌≡◌, ◌≤◌, length};
-ghost use Rattle.rules.specs.Lists.{first};
-ghost use Rattle.rules.specs.Map.{by_dart, Limits};
-ghost use Rattle.rules.specs.Check.{check_answer, check_work};
+ghost use Rattle.std.specs.Prelude.{◌≡◌, ℕ, false, ◌≤◌, ◌<◌, length};
+ghost use Rattle.rules.specs.Lists.{first, found};
+ghost use Rattle.rules.specs.Map.{by_dart};
+ghost use Rattle.tables.specs.Maps.{of};
+ghost use Rattle.rules.specs.Check.{verdict, verdict_of, check_answer, check_work};
 ghost use Rattle.checker.specs.Parts.{numberless, misfit_of, misbuilt_of, misjoined_of};
 
-use rules::{CheckAnswer, Form, Session};
+use rules::{CheckAnswer, Form, Reason, Refusal, Session};
+use tables::{Map, ValidMap};
 
-// The least dart that has no walk number, or n.
-pub fn first_unnumbered(work: &[u16], darts: usize) -> usize
-    requires { darts ≤ length work.now }
-    ensures { result ≡ first (numberless work.now) darts }
+// The least dart that has no walk number; those before `from` have one.
+pub fn first_unnumbered(work: &[u16], from: usize, darts: usize) -> Option<usize>
+    requires { (darts ≤ length work.now) × (from ≤ darts) × ((d : ℕ) → d < from → numberless work.now d ≡ false) }
+    ensures { result ≡ found (first (numberless work.now) darts) darts }
 {
-    let mut d = 0;
-    while d < darts {
+    for d in from..darts {
         if work[d] == Session::NO_LINK {
-            return d;
+            return Some(d);
         }
-        d += 1;
     }
-    d
+    None
 }
 
-// Refusals 1 to 5, or 0.
-pub fn misfit(dim: usize, darts: usize, root: usize, tables: usize, work: usize) -> u32
-    ensures { result ≡ misfit_of dim darts root tables work }
+// Refusals 1 to 5.
+pub fn misfit(
+    dim: usize,
+    darts: usize,
+    root: usize,
+    tables: usize,
+    work: usize,
+) -> Result<(), Refusal>
+    ensures { verdict_of result ≡ misfit_of dim darts root tables work }
 {
     if dim < 1 {
-        return 1;
+        return Err(Refusal::of(Reason::Dimension));
     }
     if 6 < dim {
-        return 1;
+        return Err(Refusal::of(Reason::Dimension));
     }
     if darts < 1 {
-        return 2;
+        return Err(Refusal::of(Reason::Darts));
     }
     if Session::DARTS < darts {
-        return 2;
+        return Err(Refusal::of(Reason::Darts));
     }
     if tables < (dim + 1) * darts {
-        return 3;
+        return Err(Refusal::of(Reason::ShortTables));
     }
     if work < 2 * darts {
-        return 4;
+        return Err(Refusal::of(Reason::ShortWork));
     }
     if darts <= root {
-        return 5;
+        return Err(Refusal::of(Reason::Root));
     }
-    0
+    Ok(())
 }
 
-// The first of refusals 6 to 8 in the stated order, or number 0.
-pub fn first_misbuilt(tables: &[u16], dim: usize, darts: usize) -> CheckAnswer
-    requires { Limits dim darts tables.now }
-    ensures { result ≡ misbuilt_of dim darts tables.now }
+// The first of refusals 6 to 8 in the stated order.
+pub fn first_misbuilt(map: &Map) -> Result<(), Refusal>
+    ensures { verdict_of result ≡ of misbuilt_of map.now }
 {
-    let size = (dim + 1) * darts;
     // a link that leads back is a dart: where all do, 6 needs no search of its own
-    let t = tables::first_twisted(tables, dim, darts);
-    if t < size {
-        let k = tables::first_outside(tables, dim, darts);
-        if k < size {
-            return CheckAnswer {
-                number: 6,
-                place: tables::place(dim, darts, k / darts, k % darts) as u32,
-            };
+    if let Some(t) = map.first_twisted() {
+        if let Some(k) = map.first_outside() {
+            return Err(Refusal {
+                reason: Reason::Entry,
+                place: map.place(k / map.darts, k % map.darts) as u32,
+            });
         }
-        return CheckAnswer {
-            number: 7,
-            place: tables::place(dim, darts, t / darts, t % darts) as u32,
-        };
+        return Err(Refusal {
+            reason: Reason::Inverse,
+            place: map.place(t / map.darts, t % map.darts) as u32,
+        });
     }
-    let d = tables::first_broken(tables, dim, darts);
-    if d < darts {
-        return CheckAnswer {
-            number: 8,
+    if let Some(d) = map.first_broken() {
+        return Err(Refusal {
+            reason: Reason::Manifold,
             place: d as u32,
-        };
+        });
     }
-    CheckAnswer {
-        number: 0,
-        place: 0,
-    }
+    Ok(())
 }
 
-// Refusals 6 to 8, or number 0. One pass over the darts tells that there is none; only where it finds something is the
-// first place sought.
-pub fn misbuilt(tables: &[u16], dim: usize, darts: usize) -> CheckAnswer
-    requires { Limits dim darts tables.now }
-    ensures { result ≡ misbuilt_of dim darts tables.now }
+// Refusals 6 to 8. One pass over the darts tells that there is none; only where it finds something is the first place
+// sought.
+pub fn misbuilt(map: &Map) -> Result<(), Refusal>
+    ensures { verdict_of result ≡ of misbuilt_of map.now }
 {
-    if tables::all_sound(tables, dim, darts) {
-        return CheckAnswer {
-            number: 0,
-            place: 0,
-        };
+    if map.all_sound() {
+        return Ok(());
     }
-    first_misbuilt(tables, dim, darts)
+    first_misbuilt(map)
 }
 
-// Refusal 9 where a dart has no walk number, in the several form 30 where one body is all; or number 0.
-pub fn misjoined(form: Form, work: &[u16], darts: usize, bodies: u16) -> CheckAnswer
+// Refusal 9 where a dart has no walk number, in the several form 30 where one body is all. The report's, by marks, asks
+// something else in the several form, and the one-body form alone searches: no common function is plainer.
+pub fn misjoined(form: Form, work: &[u16], darts: usize, bodies: u16) -> Result<(), Refusal>
     requires { (darts ≤ length work.now) × (darts ≤ 4096) }
-    ensures { result ≡ misjoined_of form darts work.now bodies }
+    ensures { verdict_of result ≡ misjoined_of form darts work.now bodies }
 {
     match form {
         Form::One => {
-            let d = first_unnumbered(work, darts);
-            if d < darts {
-                return CheckAnswer {
-                    number: 9,
+            if let Some(d) = first_unnumbered(work, 0, darts) {
+                return Err(Refusal {
+                    reason: Reason::NotReached,
                     place: d as u32,
-                };
+                });
             }
         }
         Form::Several => {
             if bodies == 1 {
-                return CheckAnswer {
-                    number: 30,
-                    place: 0,
-                };
+                return Err(Refusal::of(Reason::OneBody));
             }
         }
     }
-    CheckAnswer {
-        number: 0,
-        place: 0,
-    }
+    Ok(())
 }
 
-// The check of posted tables.
+// The check for those that go on where it passes: the work room is left as the check leaves it.
+pub fn checked(
+    form: Form,
+    dim: usize,
+    darts: usize,
+    root: usize,
+    tables: &[u16],
+    work: &mut [u16],
+) -> Result<(), Refusal>
+    ensures { (verdict_of result ≡ verdict form by_dart dim darts root tables.now (length work.old))
+        × (work.new ≡ check_work form by_dart dim darts root tables.now work.old) }
+{
+    misfit(dim, darts, root, tables.len(), work.len())?;
+    let map = Map { dim, darts, tables };
+    misbuilt(&map)?;
+    let valid = ValidMap { map };
+    let bodies = walk::number_all(form, &valid, work, root);
+    let joined = misjoined(form, work, darts, bodies);
+    if joined.is_ok() {
+        return joined;
+    }
+    tables::blank(work, 2 * darts);
+    joined
+}
+
+// The check of posted tables. Public calls take N, n and the rooms apart, as C has them.
 pub fn check(
     form: Form,
     dim: usize,
@@ -144,22 +157,11 @@ pub fn check(
     ensures { (result ≡ check_answer form by_dart dim darts root tables.now work.old)
         × (work.new ≡ check_work form by_dart dim darts root tables.now work.old) }
 {
-    let first = misfit(dim, darts, root, tables.len(), work.len());
-    if first != 0 {
-        return CheckAnswer {
-            number: first,
+    match checked(form, dim, darts, root, tables, work) {
+        Ok(()) => CheckAnswer {
+            number: 0,
             place: 0,
-        };
+        },
+        Err(r) => CheckAnswer::from(r),
     }
-    let next = misbuilt(tables, dim, darts);
-    if next.number != 0 {
-        return next;
-    }
-    let bodies = walk::number_all(form, tables, work, dim, darts, root);
-    let last = misjoined(form, work, darts, bodies);
-    if last.number == 0 {
-        return last;
-    }
-    tables::blank(work, 2 * darts);
-    last
 }

@@ -10,9 +10,7 @@ use Rattle.shapes.specs.Text.{line_end, good, number, several, face}
 use Rattle.text.specs.Leaves.{known_of}
 use Rattle.text.proofs.Readings.{next_good, several_split, several_length}
 use Rattle.shapes.specs.Faces.{Corner, corners_to, corners, all_corners}
-use Rattle.corners.specs.declared.Position.{Position}
-use Rattle.corners.specs.declared.Step.{Step}
-use Rattle.corners.specs.Steps.{known, begun, opened_by, opened_of, step_by, step_of, position_after, step_at}
+use Rattle.corners.specs.Steps.{Spot, Turn, known, begun, opened_by, opened_of, step_by, step_of, position_after, step_at}
 
 -- what a step tells of a corner
 pub record Use : Type 0 where
@@ -23,7 +21,7 @@ pub record Use : Type 0 where
 abbrev pub bare : Corner → Use
 bare k = record { own = k.own; far = k.far; left = k.left }
 
-abbrev pub use_of : Step → Use
+abbrev pub use_of : Turn → Use
 use_of s = record { own = s.own; far = s.far; left = s.left }
 
 -- no face is empty
@@ -60,16 +58,16 @@ module _ (t : List ℕ) where
       open_step e (suc k) f o ∙ rw (lt-leb (suc (suc k)) 1 (omega arith), known_is e v a q, z)
 
   -- the steps of k corners from c on tell this, and lead to d
-  pub data Run : ℕ → Position → List Use → Position → Type 0 where
-    stay : {c : Position} → Run zero c [] c
-    turn : {k : ℕ} {c : Position} {us : List Use} {d : Position} (s : Step) → step_of t c ≡ s → Run k s.next us d → Run (suc k) c (use_of s ∷ us) d
+  pub data Run : ℕ → Spot → List Use → Spot → Type 0 where
+    stay : {c : Spot} → Run zero c [] c
+    turn : {k : ℕ} {c : Spot} {us : List Use} {d : Spot} (s : Turn) → step_of t c ≡ s → Run k s.next us d → Run (suc k) c (use_of s ∷ us) d
 
-  run_join : (a b : ℕ) {c d f : Position} {us ws : List Use} → Run a c us d → Run b d ws f → Run (a + b) c (us ++ ws) f
+  run_join : (a b : ℕ) {c d f : Spot} {us ws : List Use} → Run a c us d → Run b d ws f → Run (a + b) c (us ++ ws) f
   run_join zero b stay q = let z : 0 + b ≡ b = omega arith in rw z q
   run_join (suc a) b (turn s e r) q = let z : suc a + b ≡ suc (a + b) = omega arith in rw z (turn s e (run_join a b r q))
 
   -- what a run tells of each corner
-  pub run_at : {n : ℕ} {c d : Position} {us : List Use} → Run n c us d → (j : ℕ) → j < n
+  pub run_at : {n : ℕ} {c d : Spot} {us : List Use} → Run n c us d → (j : ℕ) → j < n
       → get_or us j (record { own = 0; far = 0; left = 0 }) ≡ use_of (step_at t c j)
   unfolding step_at position_after
   run_at stay j h = absurd (omega arith)
@@ -106,7 +104,7 @@ module _ (t : List ℕ) where
       shut : opened_of t (record { at = a; left = suc k; first = v; own = v }) ≡ record { at = a; left = suc k; first = v; own = v }
       shut = rw (ne_eqb (suc k) 0 (omega arith))
 
-  run_first : {n : ℕ} {c d e : Position} {us : List Use} → step_of t c ≡ step_of t d → Run (suc n) d us e → Run (suc n) c us e
+  run_first : {n : ℕ} {c d e : Spot} {us : List Use} → step_of t c ≡ step_of t d → Run (suc n) d us e → Run (suc n) c us e
   run_first q (turn s e r) = turn s (q ∙ e) r
 
   -- what a face is read of

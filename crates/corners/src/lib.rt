@@ -1,16 +1,17 @@
 // The corners of a text's faces one by one: each with its side, and the face that it is of.
 #![tactic(auto)]
 
-ghost use Rattle.std.specs.Prelude.{◌≡◌, cond, ◌+◌, ◌<◌, leb};
+ghost use Rattle.std.specs.Prelude.{◌≡◌};
 ghost use Rattle.rules.specs.Lists.{count_below};
-ghost use Rattle.text.specs.Leaves.{Fresh};
-ghost use Rattle.corners.specs.Steps.{begun, opened_of, step_of, last_at};
+ghost use Rattle.corners.specs.Steps.{spot, of, turned, begun, opened_of, step_of, last_at};
+
+use text::Place;
 
 // A position among the corners: how many corners of the face are left (0: a face begins), its first vertex and this
-// corner's.
+// corner's. No Option: the definitions of `Steps`, which theorems speak of, have this 0.
 #[derive(Clone, Copy)]
-pub struct Position {
-    pub at: usize,
+pub struct Position<'a> {
+    pub place: Place<'a>,
     pub left: u32,
     pub first: u32,
     pub own: u32,
@@ -18,19 +19,20 @@ pub struct Position {
 
 // A corner's side, how many corners of its face are left with it, and the next corner.
 #[derive(Clone, Copy)]
-pub struct Step {
+pub struct Step<'a> {
     pub own: u32,
     pub far: u32,
     pub left: u32,
-    pub next: Position,
+    pub next: Position<'a>,
 }
 
 // Where a face begins.
-pub fn begin(start: usize) -> Position
-    ensures { result ≡ begun start }
+pub fn begin(start: Place<'_>) -> Position<'_>
+    ensures spot { spot result ≡ begun start.entry.at }
+    ensures text { result.place.text ≡ start.entry.text }
 {
     Position {
-        at: start,
+        place: start,
         left: 0,
         first: 0,
         own: 0,
@@ -38,17 +40,17 @@ pub fn begin(start: usize) -> Position
 }
 
 // With the face begun.
-fn opened(text: &[u8], c: Position) -> Position
-    requires { Fresh text.now c.at }
-    ensures { result ≡ opened_of text.now c }
+fn opened(c: Position<'_>) -> Position<'_>
+    ensures spot { spot result ≡ of opened_of c.entry }
+    ensures text { result.place.text ≡ c.entry.place.text }
 {
     if c.left != 0 {
         return c;
     }
-    let k = text::taken(text, c.at);
-    let v = text::taken(text, k.after);
+    let k = c.place.taken();
+    let v = k.after.taken();
     Position {
-        at: v.after,
+        place: v.after,
         left: k.value,
         first: v.value,
         own: v.value,
@@ -56,26 +58,26 @@ fn opened(text: &[u8], c: Position) -> Position
 }
 
 // A corner's side: the last one's goes to the first. After it the rest of the line is passed over.
-pub fn turn(text: &[u8], c: Position) -> Step
-    requires { Fresh text.now c.at }
-    ensures { result ≡ step_of text.now c }
+pub fn turn(c: Position<'_>) -> Step<'_>
+    ensures step { turned result ≡ of step_of c.entry }
+    ensures text { result.next.place.text ≡ c.entry.place.text }
 {
-    let o = opened(text, c);
+    let o = opened(c);
     if o.left <= 1 {
         return Step {
             own: o.own,
             far: o.first,
             left: 1,
-            next: begin(text::line_end(text, o.at)),
+            next: begin(text::line_end(o.place.text, o.place.at)),
         };
     }
-    let v = text::taken(text, o.at);
+    let v = o.place.taken();
     Step {
         own: o.own,
         far: v.value,
         left: o.left,
         next: Position {
-            at: v.after,
+            place: v.after,
             left: o.left - 1,
             first: o.first,
             own: v.value,
@@ -83,30 +85,18 @@ pub fn turn(text: &[u8], c: Position) -> Step
     }
 }
 
-// One face more has ended where its last corner is passed.
-fn ended(face: usize, left: u32) -> usize
-    requires { face < 18446744073709551615 }
-    ensures { result ≡ face + cond (leb left 1) 1 0 }
-{
-    if left <= 1 {
-        return face + 1;
-    }
-    face
-}
-
 // How many faces end before a corner: the number of the face that it is of.
-pub fn face_of(text: &[u8], start: usize, corner: usize) -> usize
-    requires { Fresh text.now start }
-    ensures { result ≡ count_below corner (last_at text.now (begun start)) }
+pub fn face_of(start: Place<'_>, corner: usize) -> usize
+    ensures { result ≡ count_below corner (last_at start.entry.text.now (begun start.entry.at)) }
 {
     let mut c = begin(start);
     let mut face: usize = 0;
-    let mut k: usize = 0;
-    while k < corner {
-        let s = turn(text, c);
-        face = ended(face, s.left);
+    for _ in 0..corner {
+        let s = turn(c);
+        if s.left <= 1 {
+            face += 1;
+        }
         c = s.next;
-        k += 1;
     }
     face
 }

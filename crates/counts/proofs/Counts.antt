@@ -1,12 +1,12 @@
 -- Laws of the report's counts, one turn of a loop at a time: a dart leads its cell if no flood before it came there.
 -- Rests on the flood's Orbits and the rules' Orbits.
 use Prim.Native.Nat.{ℕ, zero, suc, ◌+◌, ◌*◌, ◌-◌, ◌≤◌, ◌<◌}
-use mathlib.Core.Path.{◌≡◌, refl, ap, sym, ◌∙◌}
+use mathlib.Core.Path.{◌≡◌, refl, sym, ◌∙◌}
 use mathlib.Core.Logic.{◌⊎◌, inl, inr}
 use mathlib.Core.Bool.{Bool, true, false, not, cond}
 use mathlib.Core.List.{List}
 use native.Mathlib.Omega.{arith}
-use native.Mathlib.Decide.{ℕ_discrete, dec_le, dec_lt}
+use native.Mathlib.Decide.{ℕ_discrete, dec_le}
 use lib.ListN.{length, get_or, set, replicate, length-set}
 use lib.Seq.{ext_get_or, get_or-set_same, get_or-set_other}
 use lib.Dec.{leb}
@@ -16,8 +16,8 @@ use Rattle.rules.specs.Map.{by_dart, mark, blank, Reached, all_but, Valid, reach
 use Rattle.rules.specs.Report.{leads, cells, cell_counts}
 use Rattle.rules.proofs.Lists.{length_list_of, get_d_list_of, get_d_same, some_below_lem, below_some}
 use Rattle.rules.proofs.Orbits.{valid_closed, reached_sym, reaches_reached, reached_reaches}
-use Rattle.flood.specs.Flood.{Marked, Queue, Extended, Linked, Explored, Flooded}
-use Rattle.flood.proofs.Queues.{full_marked, marked_full, extended_marked, queue_blanked, none_blanked}
+use Rattle.flood.specs.Flood.{Marked, IsQueue, Extended, Linked, Explored, Flooded}
+use Rattle.flood.proofs.Queues.{full_marked, extended_marked, queue_blanked, none_blanked}
 use Rattle.flood.proofs.Floods.{linked_reached}
 use Rattle.flood.proofs.Orbits.{reached_marked, flooded_on, flooded_start, flooded_cases, flooded_explored}
 
@@ -36,7 +36,7 @@ count_none f = refl
 
 -- floods of the cells of rank i have come to dart d
 pub record Swept (N n : ℕ) (t : List ℕ) (i d tail found : ℕ) (w : List ℕ) : Type 0 where
-  pub queue : Queue n tail w
+  pub queue : IsQueue n tail w
   pub explored : Explored (all_but i) N n t 0 tail w
   pub traced : (x : ℕ) → x < n → Marked w x → (e : ℕ) × (e < d) × Reached by_dart (all_but i) N n t e x
   pub passed : (x : ℕ) → x < d → Marked w x
@@ -110,19 +110,15 @@ module _ {N n : ℕ} {t : List ℕ} (v : Valid by_dart N n t) {i d tail found : 
       from x h (inl m) = let (e, he, r) = R.traced x h m in (e, omega arith, r)
       from x h (inr r) = (d, omega arith, linked_reached r)
 
--- a dart is without mark: the floods have not come to the last
-pub swept_more : {N n : ℕ} {t : List ℕ} {i d tail found : ℕ} {w : List ℕ} → Swept N n t i d tail found w → tail < n → d < n
-swept_more {n = n} {d = d} R h = go (dec_lt d n)
-  where
-    go : Dec (d < n) → d < n
-    go (yes l) = l
-    go (no l) = absurd (omega (arith, marked_full R.queue (λ x k. R.passed x (omega arith))))
+-- the floods have come past the last dart
+pub swept_all : {N n : ℕ} {t : List ℕ} {i tail found : ℕ} {w : List ℕ} → Swept N n t i n tail found w → found ≡ cells by_dart N n t i
+unfolding cells
+swept_all R = R.count
 
 -- every dart is marked: none that is left leads its cell
 swept_rest : {N n : ℕ} {t : List ℕ} → Valid by_dart N n t → {i tail found : ℕ} {w : List ℕ} (k d : ℕ) → d + k ≡ n → ((x : ℕ) → x < n → Marked w x)
     → Swept N n t i d tail found w → found ≡ cells by_dart N n t i
-unfolding cells
-swept_rest {N} {n} {t} v {i} zero d e m R = R.count ∙ ap (λ (x : ℕ). count_below x (leads by_dart N n t i)) (omega arith)
+swept_rest v zero d e m R = let z : d ≡ _ = omega arith in swept_all (rw z at R)
 swept_rest v (suc k) d e m R = swept_rest v k (d + 1) (omega arith) m (swept_old v R (omega arith) (m d (omega arith)))
 
 pub swept_end : {N n : ℕ} {t : List ℕ} {i d tail found : ℕ} {w : List ℕ} → Valid by_dart N n t → Swept N n t i d tail found w → d ≤ n → n ≤ tail

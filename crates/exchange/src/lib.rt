@@ -1,5 +1,6 @@
 // The surface for C: exported functions on plain numbers and slices over the library's calls. Each returns the refusal
 // number; the whole answer goes to the answer room. A session is kept as stored numbers in the caller's own record.
+// A call in either form has a C name for each form: the names are the C interface.
 #![tactic(auto)]
 
 ghost use Rattle.std.specs.Prelude.{◌≡◌, get_or};
@@ -15,7 +16,7 @@ ghost use Rattle.stored.specs.Answers.{check_numbers, write_numbers, read_number
 ghost use Rattle.stored.specs.Layout.{stored_session};
 ghost use Rattle.exchange.specs.Rooms.{lent, page_lent, close_lent, faces_numbers};
 
-use rules::{Form, Session};
+use rules::{Form, Reason, Session};
 use stored::{PageRoom, ReadRoom, Record};
 
 // The check of posted tables, in either form.
@@ -41,7 +42,7 @@ pub fn check_in(
         tables,
         work,
     );
-    *answer = [a.number, a.place];
+    *answer = stored::check_numbers(a);
     a.number
 }
 
@@ -114,7 +115,7 @@ pub fn write_in(
         work,
         out,
     );
-    *answer = [a.number, a.place, a.written, a.length];
+    *answer = stored::write_numbers(a);
     a.number
 }
 
@@ -222,18 +223,14 @@ pub extern "C" fn kz_page(
         ≡ page_lent kept.old bytes.now tables.old)
         × (result ≡ get_or answer.new 0 0) }
 {
-    let given = *kept;
-    if !stored::stands(given) {
+    let Some(session) = stored::session_in(*kept) else {
         *answer = stored::unfit_page_numbers();
-        return 19;
-    }
-    let p = reader::page(stored::session_of(given), bytes, tables);
-    let session = p.session;
-    let a = p.answer;
-    *kept = stored::stored_session(session);
-    *answer = stored::page_numbers(a);
-    let reading = a.reading;
-    reading.number
+        return Reason::Unfit.number();
+    };
+    let p = reader::page(session, bytes, tables);
+    *kept = stored::stored_session(p.session);
+    *answer = stored::page_numbers(p.answer);
+    p.answer.reading.number
 }
 
 // A session's end.
@@ -243,17 +240,14 @@ pub extern "C" fn kz_close(kept: &mut Record, tables: &mut [u16], answer: &mut R
         ≡ close_lent kept.old tables.old)
         × (result ≡ get_or answer.new 0 0) }
 {
-    let given = *kept;
-    if !stored::stands(given) {
+    let Some(session) = stored::session_in(*kept) else {
         *answer = stored::unfit_numbers();
-        return 19;
-    }
-    let p = reader::close(stored::session_of(given), tables);
-    let closed = p.session;
-    let a = p.answer;
-    *kept = stored::stored_session(closed);
-    *answer = stored::read_numbers(a);
-    a.number
+        return Reason::Unfit.number();
+    };
+    let p = reader::close(session, tables);
+    *kept = stored::stored_session(p.session);
+    *answer = stored::read_numbers(p.answer);
+    p.answer.number
 }
 
 // The cell report, in either form.

@@ -11,13 +11,15 @@ use borrow.Author.Tests.{ne_eqb, le-leb, lt-leb, eqb-true, eqb-false, ltb-false}
 use Rattle.shapes.specs.declared.FacesAnswer.{FacesAnswer}
 use Rattle.rules.specs.declared.Form.TheVariants.{One}
 use Rattle.rules.specs.Map.{Layout, by_dart, dim_fits, darts_fit}
-use Rattle.rules.specs.Refusals.{among, of_bodies}
-use Rattle.rules.specs.Check.{Verdict, refuse_if, verdict, work_after, check_answer_of}
-use Rattle.rules.specs.declared.CheckAnswer.{CheckAnswer}
+use Rattle.rules.specs.Refusals.{number_of, among, of_bodies}
+use Rattle.rules.specs.Check.{Verdict, refuse_if, verdict, work_after}
 use Rattle.shapes.specs.Text.{file}
 use Rattle.shapes.specs.Faces.{refusal, read_verdict, corners_of, map_on, darts_of, faces_answer_of, tables_after, faces_answer, faces_tables, faces_work}
 use Rattle.shapes.proofs.Posted.{never_alone}
-use Rattle.faces.specs.Parts.{misfit_of, Posts}
+use Rattle.std.specs.Prelude.{Result, Ok, Err}
+use Rattle.rules.specs.declared.Reason.{Reason}
+use Rattle.rules.specs.declared.Refusal.{Refusal}
+use Rattle.faces.specs.Parts.{fit_of, Posts}
 
 -- refused by another number than 9: nothing is changed
 pub refused_posts : (text t work : List ℕ) (nr p : ℕ) (r : FacesAnswer) → r ≡ refusal nr p → nr ≢ 9
@@ -32,10 +34,10 @@ pub too_many : (Y : Layout) (n : ℕ) (t : List ℕ) (room : ℕ) → 4096 < n �
 unfolding verdict refuse_if dim_fits darts_fit
 too_many Y n t room h = rw (le-leb 1 n (omega arith), lt-leb n 4096 h)
 
-pub misfit_verdict : (Y : Layout) (c : ℕ) (t : List ℕ) (room m : ℕ) → c ≤ 2048 → m ≡ misfit_of c (length t) room → m ≢ 0
-    → verdict One Y 2 (2 * c) 0 t room ≡ Verdict.refused m 0
-unfolding verdict refuse_if dim_fits darts_fit misfit_of
-misfit_verdict Y c t room m h e s = go (eqb c 0) (ltb (length t) (6 * c)) (ltb room (4 * c)) refl refl refl
+pub misfit_verdict : (Y : Layout) (c : ℕ) (t : List ℕ) (room : ℕ) (r : Refusal ℕ) → c ≤ 2048 → Err r ≡ fit_of c (length t) room
+    → verdict One Y 2 (2 * c) 0 t room ≡ Verdict.refused (number_of r.reason) r.place
+unfolding verdict refuse_if dim_fits darts_fit fit_of number_of
+misfit_verdict Y c t room r h e = go (eqb c 0) (ltb (length t) (6 * c)) (ltb room (4 * c)) refl refl refl
   where
     entries : 3 * (2 * c) ≡ 6 * c
     entries = omega arith
@@ -43,20 +45,21 @@ misfit_verdict Y c t room m h e s = go (eqb c 0) (ltb (length t) (6 * c)) (ltb r
     numbers : 2 * (2 * c) ≡ 4 * c
     numbers = omega arith
 
-    go : (a b d : Bool) → eqb c 0 ≡ a → ltb (length t) (6 * c) ≡ b → ltb room (4 * c) ≡ d → verdict One Y 2 (2 * c) 0 t room ≡ Verdict.refused m 0
+    is : (n : Reason) → ◌≡◌ {A = Result (Unit {0}) (Refusal ℕ)} (Err r) (Err (record { reason = n; place = 0 })) → Verdict.refused (number_of n) 0 ≡ Verdict.refused (number_of r.reason) r.place
+    is n q = let z : r ≡ record { reason = n; place = 0 } = cc in rw z
+
+    go : (a b d : Bool) → eqb c 0 ≡ a → ltb (length t) (6 * c) ≡ b → ltb room (4 * c) ≡ d
+        → verdict One Y 2 (2 * c) 0 t room ≡ Verdict.refused (number_of r.reason) r.place
     go true b d x y z =
         let w : c ≡ 0 = eqb-true c 0 x in
-        let k : m ≡ 2 = e ∙ rw x in
-        rw (k, lt-leb 1 (2 * c) (omega arith))
+        rw (lt-leb 1 (2 * c) (omega arith)) (is Reason.Darts (e ∙ rw x))
     go false true d x y z =
         let w = eqb-false c 0 x in
-        let k : m ≡ 3 = e ∙ rw (x, y) in
-        rw (k, le-leb 1 (2 * c) (omega arith), le-leb (2 * c) 4096 (omega arith), entries, y)
+        rw (le-leb 1 (2 * c) (omega arith), le-leb (2 * c) 4096 (omega arith), entries, y) (is Reason.ShortTables (e ∙ rw (x, y)))
     go false false true x y z =
         let w = eqb-false c 0 x in
-        let k : m ≡ 4 = e ∙ rw (x, y, z) in
-        rw (k, le-leb 1 (2 * c) (omega arith), le-leb (2 * c) 4096 (omega arith), entries, y, numbers, z)
-    go false false false x y z = absurd (s (e ∙ rw (x, y, z)))
+        rw (le-leb 1 (2 * c) (omega arith), le-leb (2 * c) 4096 (omega arith), entries, y, numbers, z) (is Reason.ShortWork (e ∙ rw (x, y, z)))
+    go false false false x y z = let q : ◌≡◌ {A = Result (Unit {0}) (Refusal ℕ)} (Err r) (Ok tt) = e ∙ rw (x, y, z) in cc
 
 -- what is left where they do not refuse
 pub record Fits (c : ℕ) (tables room : ℕ) : Type 0 where
@@ -64,40 +67,33 @@ pub record Fits (c : ℕ) (tables room : ℕ) : Type 0 where
   pub entries : 6 * c ≤ tables
   pub numbers : 4 * c ≤ room
 
-pub misfit_none : (c tables room m : ℕ) → m ≡ misfit_of c tables room → m ≡ 0 → Fits c tables room
-unfolding misfit_of
-misfit_none c tables room m e h = go (eqb c 0) (ltb tables (6 * c)) (ltb room (4 * c)) refl refl refl
+pub misfit_none : (c tables room : ℕ) → Ok tt ≡ fit_of c tables room → Fits c tables room
+unfolding fit_of
+misfit_none c tables room e = go (eqb c 0) (ltb tables (6 * c)) (ltb room (4 * c)) refl refl refl
   where
+    no : {A : Type 0} (r : Refusal ℕ) → ◌≡◌ {A = Result (Unit {0}) (Refusal ℕ)} (Ok tt) (Err r) → A
+    no r q = cc
+
     go : (a b d : Bool) → eqb c 0 ≡ a → ltb tables (6 * c) ≡ b → ltb room (4 * c) ≡ d → Fits c tables room
-    go true b d x y z = let w : 2 ≡ m = sym (e ∙ rw x) in absurd (omega arith)
-    go false true d x y z = let w : 3 ≡ m = sym (e ∙ rw (x, y)) in absurd (omega arith)
-    go false false true x y z = let w : 4 ≡ m = sym (e ∙ rw (x, y, z)) in absurd (omega arith)
+    go true b d x y z = no (record { reason = Reason.Darts; place = 0 }) (e ∙ rw x)
+    go false true d x y z = no (record { reason = Reason.ShortTables; place = 0 }) (e ∙ rw (x, y))
+    go false false true x y z = no (record { reason = Reason.ShortWork; place = 0 }) (e ∙ rw (x, y, z))
     go false false false x y z =
         let w = eqb-false c 0 x in
         record { some = omega arith; entries = ltb-false tables (6 * c) y; numbers = ltb-false room (4 * c) z }
 
-pub misfit_small : (c tables room m : ℕ) → m ≡ misfit_of c tables room → m ≢ 9
-unfolding misfit_of
-misfit_small c tables room m e h = go (eqb c 0) (ltb tables (6 * c)) (ltb room (4 * c)) refl refl refl
+pub misfit_small : (c tables room : ℕ) (r : Refusal ℕ) → Err r ≡ fit_of c tables room → number_of r.reason ≢ 9
+unfolding fit_of number_of
+misfit_small c tables room r e h = go (eqb c 0) (ltb tables (6 * c)) (ltb room (4 * c)) refl refl refl
   where
+    no : (n : Reason) → number_of n ≢ 9 → ◌≡◌ {A = Result (Unit {0}) (Refusal ℕ)} (Err r) (Err (record { reason = n; place = 0 })) → ⊥
+    no n k q = let z : r ≡ record { reason = n; place = 0 } = cc in k (sym (ap (λ (r : Refusal ℕ). number_of r.reason) z) ∙ h)
+
     go : (a b d : Bool) → eqb c 0 ≡ a → ltb tables (6 * c) ≡ b → ltb room (4 * c) ≡ d → ⊥
-    go true b d x y z = let w : 2 ≡ m = sym (e ∙ rw x) in absurd (omega arith)
-    go false true d x y z = let w : 3 ≡ m = sym (e ∙ rw (x, y)) in absurd (omega arith)
-    go false false true x y z = let w : 4 ≡ m = sym (e ∙ rw (x, y, z)) in absurd (omega arith)
-    go false false false x y z = let w : 0 ≡ m = sym (e ∙ rw (x, y, z)) in absurd (omega arith)
-
--- the check's answer as a face file's
-pub check_fine : (n : ℕ) (v : Verdict) (a : CheckAnswer) → a ≡ check_answer_of v → ((nr p : ℕ) → v ≡ Verdict.refused nr p → nr ≢ 0) → a.number ≡ 0
-    → record { number = 0; place = 0; darts = n } ≡ faces_answer_of n v
-unfolding check_answer_of faces_answer_of
-check_fine n Verdict.fine a e h z = refl
-check_fine n (Verdict.refused nr p) a e h z = absurd (h nr p refl (sym (ap (λ (c : CheckAnswer). c.number) e) ∙ z))
-
-pub check_refused : (n : ℕ) (v : Verdict) (a : CheckAnswer) (r : FacesAnswer) → a ≡ check_answer_of v → a.number ≢ 0 → r ≡ refusal a.number a.place
-    → r ≡ faces_answer_of n v
-unfolding check_answer_of faces_answer_of refusal
-check_refused n Verdict.fine a r e h er = absurd (h (ap (λ (c : CheckAnswer). c.number) e))
-check_refused n (Verdict.refused nr p) a r e h er = er ∙ rw e
+    go true b d x y z = no Reason.Darts (λ k. omega arith) (e ∙ rw x)
+    go false true d x y z = no Reason.ShortTables (λ k. omega arith) (e ∙ rw (x, y))
+    go false false true x y z = no Reason.ShortWork (λ k. omega arith) (e ∙ rw (x, y, z))
+    go false false false x y z = let q : ◌≡◌ {A = Result (Unit {0}) (Refusal ℕ)} (Err r) (Ok tt) = e ∙ rw (x, y, z) in cc
 
 -- the map is in the tables, and the check answers fine or 9
 pub data Ends : Verdict → Type 0 where

@@ -1,41 +1,45 @@
 -- 27 to 29 as the code finds them: the faces before the first flaw, the first third use among their corners and its face, against the verdict face by face.
 use Prim.Native.Nat.{ℕ, zero, suc, ◌+◌, ◌-◌, ◌≤◌, ◌<◌}
 use mathlib.Core.Path.{◌≡◌, refl, ap, sym, ◌∙◌}
-use mathlib.Core.Logic.{◌≢◌, ◌⊎◌, inl, inr}
 use mathlib.Core.List.{List, [], ◌∷◌, ◌++◌}
 use mathlib.Core.Bool.{Bool, true, false, cond}
 use native.Mathlib.Omega.{arith}
 use native.Mathlib.Decide.{dec_lt}
 use lib.ListN.{length}
 use lib.Dec.{ltb, leb}
-use borrow.Author.Tests.{eq-eqb, ne_eqb, lt-ltb, le-ltb, le-leb, lt-leb}
+use borrow.Author.Tests.{lt-ltb, le-ltb, le-leb, lt-leb}
 use Rattle.rules.specs.Lists.{some_below, count_below}
 use Rattle.rules.specs.Check.{Verdict, refuse_if}
 use Rattle.shapes.specs.Faces.{Corner, all_corners, corner_at, large, poor, third, faces_verdict}
 use Rattle.rules.proofs.Lists.{some_below_lem, below_some, not_both}
 use Rattle.shapes.proofs.Counts.{count_add, count_same}
 use Rattle.shapes.proofs.Corners.{length_all, length_from, corner_to, corner_of, corner_here, corner_later, face_three}
-use Rattle.survey.specs.declared.Flaw.{Flaw}
-use Rattle.survey.specs.Flaws.{flaw_of, judged_of, flaws_from}
+use Rattle.std.specs.Prelude.{Some, None, is_some}
+use Rattle.survey.specs.declared.Fault.{Fault}
+use Rattle.survey.specs.declared.Fault.TheVariants.{Large, Poor}
+use Rattle.survey.specs.declared.Survey.{Survey}
+use Rattle.survey.specs.Flaws.{reason_of, fault_of, first_of, judged_of, flaws_from}
+use Rattle.rules.specs.Refusals.{number_of}
 
 -- faces without a flaw
 pub data Sound (vertices : ℕ) : List (List ℕ) → Type 0 where
   sound_none : Sound vertices []
   sound_more : {f : List ℕ} {fs : List (List ℕ)} → large vertices f ≡ false → poor f ≡ false → Sound vertices fs → Sound vertices (f ∷ fs)
 
--- a face with a flaw, and its number
-pub data Flawed (vertices : ℕ) (f : List ℕ) : ℕ → Type 0 where
-  by27 : large vertices f ≡ true → Flawed vertices f 27
-  by28 : large vertices f ≡ false → poor f ≡ true → Flawed vertices f 28
+-- a face with a fault
+pub data Flawed (vertices : ℕ) (f : List ℕ) : Fault → Type 0 where
+  by27 : large vertices f ≡ true → Flawed vertices f Large
+  by28 : large vertices f ≡ false → poor f ≡ true → Flawed vertices f Poor
 
 -- where the first flaw is, of faces that begin with face k and corner c
-pub data Ending (vertices k c : ℕ) (s : Flaw) (passed : List (List ℕ)) : List (List ℕ) → Type 0 where
-  whole : s ≡ record { number = 0; face = 0; corners = c + length (all_corners 0 passed) } → Ending vertices k c s passed []
-  flawed : (f : List ℕ) (rest : List (List ℕ)) (nr : ℕ) → Flawed vertices f nr
-      → s ≡ record { number = nr; face = k + length passed; corners = c + length (all_corners 0 passed) } → Ending vertices k c s passed (f ∷ rest)
+pub data Ending (vertices k c : ℕ) (s : Survey) (passed : List (List ℕ)) : List (List ℕ) → Type 0 where
+  whole : s ≡ record { flaw = None; corners = c + length (all_corners 0 passed) } → Ending vertices k c s passed []
+  flawed : (f : List ℕ) (rest : List (List ℕ)) (x : Fault) → Flawed vertices f x
+      → s ≡ record { flaw = Some (record { fault = x; face = k + length passed }); corners = c + length (all_corners 0 passed) }
+      → Ending vertices k c s passed (f ∷ rest)
 
 -- the faces before the first flaw and the others
-pub record Cut (vertices k c : ℕ) (fs : List (List ℕ)) (s : Flaw) : Type 0 where
+pub record Cut (vertices k c : ℕ) (fs : List (List ℕ)) (s : Survey) : Type 0 where
   pub passed : List (List ℕ)
   pub rest : List (List ℕ)
   pub all : fs ≡ passed ++ rest
@@ -44,55 +48,51 @@ pub record Cut (vertices k c : ℕ) (fs : List (List ℕ)) (s : Flaw) : Type 0 w
 
 module _ (vertices : ℕ) where
   -- after the first flaw nothing changes
-  stays : (k : ℕ) (s : Flaw) (fs : List (List ℕ)) → s.number ≢ 0 → flaws_from vertices k s fs ≡ s
+  stays : (k : ℕ) (s : Survey) (fs : List (List ℕ)) → is_some s.flaw ≡ true → flaws_from vertices k s fs ≡ s
   unfolding flaws_from judged_of
   stays k s [] h = refl
-  stays k s (f ∷ fs) h = rw (ne_eqb s.number 0 h) (stays (suc k) s fs h)
+  stays k s (f ∷ fs) h = rw h (stays (suc k) s fs h)
 
-  -- a face has a flaw or none
-  kind : (f : List ℕ) → Flawed vertices f (flaw_of vertices f) ⊎ ((large vertices f ≡ false) × (poor f ≡ false) × (flaw_of vertices f ≡ 0))
-  unfolding flaw_of
+  -- a face has a fault or none
+  data Kind (f : List ℕ) : Type 0 where
+    bad : (x : Fault) → Flawed vertices f x → fault_of vertices f ≡ Some x → Kind f
+    sound : large vertices f ≡ false → poor f ≡ false → fault_of vertices f ≡ None → Kind f
+
+  kind : (f : List ℕ) → Kind f
+  unfolding fault_of
   kind f = go (large vertices f) (poor f) refl refl
     where
-      go : (a b : Bool) → large vertices f ≡ a → poor f ≡ b
-          → Flawed vertices f (cond a 27 (cond b 28 0)) ⊎ ((a ≡ false) × (b ≡ false) × (◌≡◌ {A = ℕ} (cond a 27 (cond b 28 0)) 0))
-      go true b x y = inl (by27 x)
-      go false true x y = inl (by28 x y)
-      go false false x y = inr (refl, refl, refl)
+      go : (a b : Bool) → large vertices f ≡ a → poor f ≡ b → Kind f
+      go true b x y = bad Large (by27 x) (rw x)
+      go false true x y = bad Poor (by28 x y) (rw (x, y))
+      go false false x y = sound x y (rw (x, y))
 
-  flawed_some : {f : List ℕ} {nr : ℕ} → Flawed vertices f nr → nr ≢ 0
-  flawed_some (by27 x) e = omega arith
-  flawed_some (by28 x y) e = omega arith
-
-  pub cut : (k c : ℕ) (fs : List (List ℕ)) → Cut vertices k c fs (flaws_from vertices k (record { number = 0; face = 0; corners = c }) fs)
-  unfolding flaws_from judged_of all_corners
+  pub cut : (k c : ℕ) (fs : List (List ℕ)) → Cut vertices k c fs (flaws_from vertices k (record { flaw = None; corners = c }) fs)
+  unfolding flaws_from judged_of first_of all_corners
   cut k c [] =
       record { passed = []; rest = []; all = refl; sound = sound_none; ending = whole (let z : c + 0 ≡ c = omega arith in rw z) }
   cut k c (f ∷ fs) = go (kind f) (cut (suc k) (c + length f) fs)
     where
-      go : Flawed vertices f (flaw_of vertices f) ⊎ ((large vertices f ≡ false) × (poor f ≡ false) × (flaw_of vertices f ≡ 0))
-          → Cut vertices (suc k) (c + length f) fs (flaws_from vertices (suc k) (record { number = 0; face = 0; corners = c + length f }) fs)
-          → Cut vertices k c (f ∷ fs)
-          (flaws_from vertices (suc k) (judged_of (record { number = 0; face = 0; corners = c }) k (flaw_of vertices f) (length f)) fs)
-      go (inl x) r =
-          let h = flawed_some x in
-          let s : Flaw = record { number = flaw_of vertices f; face = k; corners = c } in
+      go : Kind f → Cut vertices (suc k) (c + length f) fs (flaws_from vertices (suc k) (record { flaw = None; corners = c + length f }) fs)
+          → Cut vertices k c (f ∷ fs) (flaws_from vertices k (record { flaw = None; corners = c }) (f ∷ fs))
+      go (bad x w e) r =
+          let s : Survey = record { flaw = Some (record { fault = x; face = k }); corners = c } in
           let z : c + 0 ≡ c = omega arith in
-          let w : k + 0 ≡ k = omega arith in
+          let o : k + 0 ≡ k = omega arith in
           record {
             passed = [];
             rest = f ∷ fs;
             all = refl;
             sound = sound_none;
-            ending = flawed f fs (flaw_of vertices f) x (rw (ne_eqb (flaw_of vertices f) 0 h, stays (suc k) s fs h, z, w));
+            ending = flawed f fs x w (rw (e, stays (suc k) s fs refl, z, o));
           }
-      go (inr (x, y, e)) r =
+      go (sound x y e) r =
           record {
             passed = f ∷ r.passed;
             rest = r.rest;
             all = ap (λ (l : List (List ℕ)). f ∷ l) r.all;
             sound = sound_more x y r.sound;
-            ending = rw (eq-eqb (flaw_of vertices f) 0 e) (on r.rest r.ending);
+            ending = rw e (on r.rest r.ending);
           }
         where
           total : c + length (all_corners 0 (f ∷ r.passed)) ≡ c + length f + length (all_corners 0 r.passed)
@@ -101,11 +101,11 @@ module _ (vertices : ℕ) where
               let b = length_from (0 + length f) r.passed in
               omega (arith, a, b)
 
-          on : {s : Flaw} (l : List (List ℕ)) → Ending vertices (suc k) (c + length f) s r.passed l → Ending vertices k c s (f ∷ r.passed) l
+          on : {s : Survey} (l : List (List ℕ)) → Ending vertices (suc k) (c + length f) s r.passed l → Ending vertices k c s (f ∷ r.passed) l
           on [] (whole q) = whole (q ∙ rw total)
-          on (g ∷ l) (flawed f' rest nr x q) =
+          on (g ∷ l) (flawed f' rest x q e) =
               let z : k + suc (length r.passed) ≡ suc k + length r.passed = omega arith in
-              flawed g l nr x (q ∙ rw (total, z))
+              flawed g l x q (e ∙ rw (total, z))
 
 -- the number of the face that corner i of these faces is of
 unfoldable pub face_at : ℕ → List (List ℕ) → ℕ
@@ -168,11 +168,11 @@ module _ (vertices : ℕ) (cs : List Corner) (later : Verdict) where
           (r ∙ rw (z, w))
 
 -- a flaw is told at its face
-pub flaw_face : (vertices : ℕ) (cs : List Corner) (later : Verdict) (k c : ℕ) (f : List ℕ) (rest : List (List ℕ)) (nr : ℕ) → Flawed vertices f nr
-    → faces_verdict vertices cs k c (f ∷ rest) later ≡ Verdict.refused nr k
-unfolding faces_verdict refuse_if
-flaw_face vertices cs later k c f rest nr (by27 x) = rw x
-flaw_face vertices cs later k c f rest nr (by28 x y) = rw (x, y)
+pub flaw_face : (vertices : ℕ) (cs : List Corner) (later : Verdict) (k c : ℕ) (f : List ℕ) (rest : List (List ℕ)) (x : Fault) → Flawed vertices f x
+    → faces_verdict vertices cs k c (f ∷ rest) later ≡ Verdict.refused (number_of (reason_of x)) k
+unfolding faces_verdict refuse_if number_of
+flaw_face vertices cs later k c f rest x (by27 a) = rw a
+flaw_face vertices cs later k c f rest x (by28 a b) = rw (a, b)
 
 -- of the corners of a face the last one alone is the last
 last_none : (n k : ℕ) → k < n → count_below k (λ j. leb (n - j) 1) ≡ 0

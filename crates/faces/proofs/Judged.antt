@@ -1,7 +1,6 @@
 -- What the plan of a text and the first third use before its flaw tell of the verdict.
 use Prim.Native.Nat.{ℕ, ◌+◌, ◌*◌, ◌-◌, ◌≤◌, ◌<◌}
 use mathlib.Core.Path.{◌≡◌, ap, sym, ◌∙◌}
-use mathlib.Core.Logic.{◌≢◌}
 use mathlib.Core.List.{List, [], ◌∷◌, ◌++◌, append-nil}
 use mathlib.Core.Bool.{false}
 use native.Mathlib.Omega.{arith}
@@ -15,13 +14,15 @@ use Rattle.shapes.specs.Faces.{all_corners, third, faces_verdict, darts_of, map_
 use Rattle.rules.proofs.Lists.{first_passes, first_before}
 use Rattle.text.proofs.Readings.{next_good}
 use Rattle.text.proofs.Numerals.{number_small}
-use Rattle.survey.specs.declared.Plan.{Plan}
+use Rattle.std.specs.Prelude.{Option, Some, None}
 use Rattle.survey.specs.declared.Flaw.{Flaw}
-use Rattle.survey.specs.Flaws.{flawless, flaws_from, plan_of}
+use Rattle.survey.specs.declared.Survey.{Survey}
+use Rattle.survey.specs.Flaws.{Outline, reason_of, flawless, surveyed, flaws_from, plan_of}
+use Rattle.rules.specs.Refusals.{number_of}
 use Rattle.survey.proofs.Plans.{Filed}
 use Rattle.corners.specs.Steps.{begun, last_at}
 use Rattle.sides.specs.Sides.{key_at, third_use}
-use Rattle.faces.proofs.Flawed.{Sound, Flawed, by27, by28, Ending, whole, flawed, Cut, cut, face_at, pass_faces, third_face, flaw_face}
+use Rattle.faces.proofs.Flawed.{Sound, Ending, whole, flawed, Cut, cut, face_at, pass_faces, third_face, flaw_face}
 use Rattle.faces.proofs.Told.{third_told, face_told}
 
 -- a file's count of vertices is below 1,000,000,000
@@ -43,10 +44,7 @@ file_small t m x e =
     what : (u v : File) (i j : ℕ) → good u i ≡ good v j → u ≡ v
     what u v i j e = cc
 
-refused_is : {a b c d : ℕ} → a ≡ c → b ≡ d → Verdict.refused a b ≡ Verdict.refused c d
-refused_is e h = rw (e, h)
-
-module _ (t : List ℕ) (p : Plan) (x : ℕ) (f : Filed t p x) where
+module _ (t : List ℕ) (p : Outline) (x : ℕ) (f : Filed t p x) where
   -- the text's faces
   abbrev pub fs : List (List ℕ)
   fs = f.what.faces
@@ -63,29 +61,19 @@ module _ (t : List ℕ) (p : Plan) (x : ℕ) (f : Filed t p x) where
   read_good Y tb room = rw f.is
 
   -- the faces before the flaw have so many corners
-  ended : {s : Flaw} {l : List (List ℕ)} (passed : List (List ℕ)) → Ending f.what.vertices 0 0 s passed l → s.corners ≡ length (all_corners 0 passed)
+  ended : {s : Survey} {l : List (List ℕ)} (passed : List (List ℕ)) → Ending f.what.vertices 0 0 s passed l → s.corners ≡ length (all_corners 0 passed)
   ended passed (whole e) = rw e (omega arith)
   ended passed (flawed g rest nr h e) = rw e (omega arith)
 
   few : p.corners ≡ length (all_corners 0 parts.passed)
-  unfolding plan_of
-  few = ap (λ (b : Plan). b.corners) f.says ∙ ended parts.passed parts.ending
+  unfolding plan_of surveyed
+  few = ap (λ (b : Outline). b.corners) f.says ∙ ended parts.passed parts.ending
 
   small : f.what.vertices ≤ 4294967296
   small = omega (arith, file_small t f.what x f.is)
 
   read : several (face t) f.count p.start ≡ good (parts.passed ++ parts.rest) x
   read = f.faces ∙ ap (λ (l : List (List ℕ)). good l x) parts.all
-
-  -- a flaw's number is 27 or 28
-  pub no_9 : p.number ≢ 9
-  unfolding plan_of
-  no_9 h = go parts.ending (ap (λ (b : Plan). b.number) (sym f.says) ∙ h)
-    where
-      go : {s : Flaw} {l : List (List ℕ)} → Ending f.what.vertices 0 0 s parts.passed l → s.number ≡ 9 → ⊥
-      go (whole e) q = let z : ◌≡◌ {A = ℕ} 0 9 = ap (λ (b : Flaw). b.number) (sym e) ∙ q in absurd (omega arith)
-      go (flawed g rest nr (by27 a) e) q = let z : ◌≡◌ {A = ℕ} 27 9 = ap (λ (b : Flaw). b.number) (sym e) ∙ q in absurd (omega arith)
-      go (flawed g rest nr (by28 a b) e) q = let z : ◌≡◌ {A = ℕ} 28 9 = ap (λ (b : Flaw). b.number) (sym e) ∙ q in absurd (omega arith)
 
   -- third uses before the flaw
   thirds : (c : ℕ) → c < p.corners → third (all_corners 0 fs) c ≡ third_use (key_at t (begun p.start)) c
@@ -129,23 +117,27 @@ module _ (t : List ℕ) (p : Plan) (x : ℕ) (f : Filed t p x) where
         (λ c a b. quiet c (omega (arith, few))))
 
     -- 27 and 28
-    pub judged_flaw : p.number ≢ 0 → (Y : Layout) (tb : List ℕ) (room : ℕ) → read_verdict Y (file t) tb room ≡ Verdict.refused p.number p.face
-    unfolding plan_of
-    judged_flaw h Y tb room = go parts.rest parts.ending (passed_by Y tb room)
+    pub judged_flaw : (w : Flaw) → p.flaw ≡ Some w → (Y : Layout) (tb : List ℕ) (room : ℕ)
+        → read_verdict Y (file t) tb room ≡ Verdict.refused (number_of (reason_of w.fault)) w.face
+    unfolding plan_of surveyed
+    judged_flaw w h Y tb room = go parts.rest parts.ending (passed_by Y tb room)
       where
-        s : Flaw
+        s : Survey
         s = flaws_from f.what.vertices 0 flawless fs
 
         go : (l : List (List ℕ)) → Ending f.what.vertices 0 0 s parts.passed l
             → read_verdict Y (file t) tb room
             ≡ faces_verdict f.what.vertices (all_corners 0 fs) (0 + length parts.passed) (0 + length (all_corners 0 parts.passed)) l
             (verdict One Y 2 (darts_of (all_corners 0 fs)) 0 (map_on Y (all_corners 0 fs) tb) room)
-            → read_verdict Y (file t) tb room ≡ Verdict.refused p.number p.face
-        go [] (whole e) q = absurd (h (ap (λ (b : Plan). b.number) f.says ∙ ap (λ (b : Flaw). b.number) e))
-        go (g ∷ rest) (flawed g' rest' nr w e) q =
-            let a : p.number ≡ nr = ap (λ (b : Plan). b.number) f.says ∙ ap (λ (b : Flaw). b.number) e in
-            let b : p.face ≡ 0 + length parts.passed = ap (λ (b : Plan). b.face) f.says ∙ ap (λ (b : Flaw). b.face) e in
-            q ∙ (flaw_face f.what.vertices (all_corners 0 fs) _ _ _ g rest nr w ∙ refused_is (sym a) (sym b))
+            → read_verdict Y (file t) tb room ≡ Verdict.refused (number_of (reason_of w.fault)) w.face
+        go [] (whole e) q =
+            let z : ◌≡◌ {A = Option Flaw} (Some w) None = sym h ∙ (ap (λ (b : Outline). b.flaw) f.says ∙ ap (λ (b : Survey). b.flaw) e) in
+            cc
+        go (g ∷ rest) (flawed g' rest' x v e) q =
+            let z : ◌≡◌ {A = Option Flaw} (Some w) (Some (record { fault = x; face = 0 + length parts.passed }))
+            = sym h ∙ (ap (λ (b : Outline). b.flaw) f.says ∙ ap (λ (b : Survey). b.flaw) e) in
+            let i : w ≡ record { fault = x; face = 0 + length parts.passed } = cc in
+            q ∙ (flaw_face f.what.vertices (all_corners 0 fs) _ _ _ g rest x v ∙ sym (ap (λ (b : Flaw). Verdict.refused (number_of (reason_of b.fault)) b.face) i))
 
     -- none of them
     pub record Clean : Type 0 where
@@ -155,11 +147,11 @@ module _ (t : List ℕ) (p : Plan) (x : ℕ) (f : Filed t p x) where
       pub verdict : (Y : Layout) (tb : List ℕ) (room : ℕ) → read_verdict Y (file t) tb room
           ≡ verdict One Y 2 (darts_of (all_corners 0 fs)) 0 (map_on Y (all_corners 0 fs) tb) room
 
-    pub judged_clean : p.number ≡ 0 → Clean
-    unfolding plan_of faces_verdict
+    pub judged_clean : p.flaw ≡ None → Clean
+    unfolding plan_of surveyed faces_verdict
     judged_clean h = go parts.rest parts.ending parts.all passed_by
       where
-        s : Flaw
+        s : Survey
         s = flaws_from f.what.vertices 0 flawless fs
 
         go : (l : List (List ℕ)) → Ending f.what.vertices 0 0 s parts.passed l → fs ≡ parts.passed ++ l
@@ -171,9 +163,7 @@ module _ (t : List ℕ) (p : Plan) (x : ℕ) (f : Filed t p x) where
             let z : fs ≡ parts.passed = a ∙ append-nil parts.passed in
             let n : length (all_corners 0 fs) ≡ p.corners = ap (λ (l : List (List ℕ)). length (all_corners 0 l)) z ∙ sym few in
             record { sound = rw z parts.sound; corners = n; twice = λ c l. quiet c (omega arith); verdict = q }
-        go (g ∷ rest) (flawed g' rest' nr w e) a q =
-            absurd (some w (ap (λ (b : Flaw). b.number) (sym e) ∙ (ap (λ (b : Plan). b.number) (sym f.says) ∙ h)))
-          where
-            some : {nr : ℕ} → Flawed f.what.vertices g' nr → nr ≢ 0
-            some (by27 x) e = omega arith
-            some (by28 x y) e = omega arith
+        go (g ∷ rest) (flawed g' rest' x v e) a q =
+            let z : ◌≡◌ {A = Option Flaw} None (Some (record { fault = x; face = 0 + length parts.passed }))
+            = sym h ∙ (ap (λ (b : Outline). b.flaw) f.says ∙ ap (λ (b : Survey). b.flaw) e) in
+            cc

@@ -7,105 +7,109 @@ ghost use Rattle.rules.specs.Map.{by_dart};
 ghost use Rattle.rules.specs.Check.{verdict, check_work};
 ghost use Rattle.shapes.specs.Faces.{faces_answer_of, faces_answer, faces_tables, faces_work};
 ghost use Rattle.build.specs.Parts.{Lefts};
-ghost use Rattle.faces.specs.Parts.{misfit_of, Planned, Posts, Refuses, Settles};
+ghost use Rattle.survey.specs.Flaws.{of, outline};
+ghost use Rattle.faces.specs.Parts.{answer_of, fit_of, Planned, Posts, Refuses, Settles};
 
-use rules::Form;
+use rules::{Form, Reason, Refusal};
 use shapes::FacesAnswer;
-use survey::{Outline, Plan};
+use sides::Block;
+use survey::Plan;
 
-// Refusals 2, 3 and 4, or 0.
-fn misfit(corners: usize, tables: usize, work: usize) -> u32
+// Refusals 2, 3 and 4.
+fn fit(corners: usize, tables: usize, work: usize) -> Result<(), Refusal>
     requires { corners ≤ 2048 }
-    ensures { result ≡ misfit_of corners tables work }
+    ensures { result ≡ fit_of corners tables work }
 {
     if corners == 0 {
-        return 2;
+        return Err(Refusal::of(Reason::Darts));
     }
     if tables < 6 * corners {
-        return 3;
+        return Err(Refusal::of(Reason::ShortTables));
     }
     if work < 4 * corners {
-        return 4;
+        return Err(Refusal::of(Reason::ShortWork));
     }
-    0
+    Ok(())
 }
 
 // What a text of more corners than a map may have is refused by.
-fn too_many(text: &[u8], p: Plan) -> FacesAnswer
-    requires { Planned text.now p × (2048 < p.corners) }
-    ensures { Refuses text.now result }
+fn too_many(p: Plan<'_>) -> Refusal<u64>
+    requires { of Planned p × (2048 < p.corners) }
+    ensures { Refuses p.entry.start.text.now result }
 {
-    let x = sides::third_use(text, p.start, p.corners);
+    let x = sides::third_use(p.start, p.corners);
     if x < p.corners {
-        return shapes::refused(29, corners::face_of(text, p.start, x) as u64);
+        return Refusal {
+            reason: Reason::Side,
+            place: corners::face_of(p.start, x) as u64,
+        };
     }
-    if p.number != 0 {
-        return shapes::refused(p.number, p.face as u64);
+    match p.flaw {
+        Some(f) => Refusal::from(f),
+        None => Refusal {
+            reason: Reason::Darts,
+            place: 0,
+        },
     }
-    shapes::refused(2, 0)
 }
 
 // The map's check, and n where it passes.
-fn checked(corners: usize, tables: &[u16], work: &mut [u16]) -> FacesAnswer
+fn checked(corners: usize, tables: &[u16], work: &mut [u16]) -> Result<u32, Refusal<u64>>
     requires { corners ≤ 2048 }
-    ensures { (result ≡ faces_answer_of (2 * corners)
+    ensures { (answer_of result ≡ faces_answer_of (2 * corners)
         (verdict One by_dart 2 (2 * corners) 0 tables.now (length work.old)))
         × (work.new ≡ check_work One by_dart 2 (2 * corners) 0 tables.now work.old) }
 {
-    let a = checker::check(Form::One, 2, 2 * corners, 0, tables, work);
-    if a.number != 0 {
-        return shapes::refused(a.number, a.place as u64);
-    }
-    FacesAnswer {
-        number: 0,
-        place: 0,
-        darts: (2 * corners) as u32,
-    }
+    checker::checked(Form::One, 2, 2 * corners, 0, tables, work)?;
+    Ok((2 * corners) as u32)
 }
 
 // A text without a third use before its flaw: the flaw, the sizes, and else the map and its check.
 fn settled(
-    p: Plan,
+    p: Plan<'_>,
     tables: &mut [u16],
     work: &mut [u16],
-    twins: &[u16; 2048],
-    owns: &[u32; 2048],
-    lefts: &[u32; 2048],
-) -> FacesAnswer
-    requires { (p.corners ≤ 2048) × (p.number ≡ 0 → Lefts lefts.now p.corners) }
-    ensures { Settles p twins.now owns.now lefts.now tables.old
-        work.old result tables.new work.new }
+    block: &Block,
+) -> Result<u32, Refusal<u64>>
+    requires { (p.corners ≤ 2048) × (p.flaw ≡ None → Lefts block.now.lefts p.corners) }
+    ensures { Settles (outline p.entry) block.now.twins block.now.owns block.now.lefts tables.old
+        work.old (answer_of result) tables.new work.new }
 {
-    if p.number != 0 {
-        return shapes::refused(p.number, p.face as u64);
+    if let Some(f) = p.flaw {
+        return Err(Refusal::from(f));
     }
-    let m = misfit(p.corners, tables.len(), work.len());
-    if m != 0 {
-        return shapes::refused(m, 0);
-    }
-    build::build(p.corners, tables, twins, owns, lefts);
+    fit(p.corners, tables.len(), work.len())?;
+    build::build(p.corners, tables, &block.twins, &block.owns, &block.lefts);
     checked(p.corners, tables, work)
 }
 
-// A text whose corners a local table holds.
-fn posted(text: &[u8], p: Plan, tables: &mut [u16], work: &mut [u16]) -> FacesAnswer
-    requires { Planned text.now p × (p.corners ≤ 2048) }
-    ensures { Posts text.now tables.old work.old result tables.new
+// A text whose corners one block holds.
+fn posted(p: Plan<'_>, tables: &mut [u16], work: &mut [u16]) -> Result<u32, Refusal<u64>>
+    requires { of Planned p × (p.corners ≤ 2048) }
+    ensures { Posts p.entry.start.text.now tables.old work.old (answer_of result) tables.new
         work.new }
 {
-    let mut tree = [0u16; 12288];
-    let mut keys = [0u64; 2048];
-    let mut twins = [sides::NONE; 2048];
-    let mut owns = [0u32; 2048];
-    let mut lefts = [0u32; 2048];
-    let from = corners::begin(p.start);
-    let l = sides::load(
-        text, from, p.corners, &mut tree, &mut keys, &mut twins, &mut owns, &mut lefts,
-    );
+    let mut block = Block::new();
+    let l = block.load(corners::begin(p.start), p.corners);
     if l.count < p.corners {
-        return shapes::refused(29, corners::face_of(text, p.start, l.count) as u64);
+        return Err(Refusal {
+            reason: Reason::Side,
+            place: corners::face_of(p.start, l.count) as u64,
+        });
     }
-    settled(p, tables, work, &twins, &owns, &lefts)
+    settled(p, tables, work, &block)
+}
+
+// n of a face file, or what refuses it.
+fn outcome(text: &[u8], tables: &mut [u16], work: &mut [u16]) -> Result<u32, Refusal<u64>>
+    ensures { Posts text.now tables.old work.old (answer_of result) tables.new
+        work.new }
+{
+    let p = survey::outlined(text)?;
+    if sides::BLOCK < p.corners {
+        return Err(too_many(p));
+    }
+    posted(p, tables, work)
 }
 
 // Read a face file into the tables.
@@ -115,14 +119,12 @@ pub fn read(text: &[u8], tables: &mut [u16], work: &mut [u16]) -> FacesAnswer
         × (tables.new ≡ faces_tables by_dart text.now tables.old work.old)
         × (work.new ≡ faces_work by_dart text.now tables.old work.old) }
 {
-    let o = survey::outlined(text);
-    match o {
-        Outline::Bad(w) => shapes::refused(26, w as u64),
-        Outline::Good(p) => {
-            if sides::BLOCK < p.corners {
-                return too_many(text, p);
-            }
-            posted(text, p, tables, work)
-        }
+    match outcome(text, tables, work) {
+        Ok(darts) => FacesAnswer {
+            number: 0,
+            place: 0,
+            darts,
+        },
+        Err(r) => FacesAnswer::from(r),
     }
 }

@@ -1,5 +1,6 @@
 -- Does the next step of a walk need a symbol? The lowest queue that isn't empty has its head; the rules' Lowest says so. Rests on the partner of `steps`.
-use Prim.Native.Nat.{ℕ, ◌≤◌, ◌<◌}
+use Prim.Native.Nat.{ℕ, ◌+◌}
+use native.Mathlib.Omega.{arith}
 use mathlib.Core.Path.{◌≡◌, ap, sym}
 use mathlib.Core.Bool.{true, false}
 use mathlib.Core.List.{List}
@@ -11,24 +12,24 @@ use Rattle.steps.specs.declared.Case.{Case}
 use Rattle.steps.specs.declared.Case.TheVariants.{Known, Deduced, Asked}
 use Rattle.rules.specs.Walk.{Walk, partner}
 use Rattle.rules.specs.Session.{walk_at, needs_symbol, asks}
-use Rattle.rules.specs.Inner.{Shape}
+use Rattle.rules.specs.Inner.{Shape, Emptied, Lowest}
 use Rattle.rules.proofs.Lowest.{head_lowest, head_past}
 use Rattle.steps.specs.Partners.{looking, told_partner}
 use Rattle.steps.proofs.Partners.{partner_looking}
-use Rattle.fitness.specs.Parts.{Found, asks_at}
+use Rattle.fitness.specs.Parts.{asks_at}
 
-module _ (N n : ℕ) (s : Stand) (t : List ℕ) (v : Shape (walk_at by_dart N n s t)) (j : ℕ) (F : Found N s.count s.positions j) where
+module _ (N n : ℕ) (s : Stand) (t : List ℕ) (v : Shape (walk_at by_dart N n s t)) where
   abbrev w : Walk
   w = walk_at by_dart N n s t
 
-  pub asks_none : N < j → false ≡ asks_at w
+  pub asks_none : Emptied s.count s.positions (N + 1) → false ≡ asks_at w
   unfolding asks walk_at
-  asks_none h = rw (head_past w v j F.lower h)
+  asks_none E = rw (head_past w v (N + 1) E (omega arith))
 
-  module _ (h : j ≤ N) (x : Case) (ex : told_partner x ≡ partner (looking by_dart N n t) j (get_or s.positions j 0)) where
+  module _ (j : ℕ) (L : Lowest N s.count s.positions j) (x : Case) (ex : told_partner x ≡ partner (looking by_dart N n t) j (get_or s.positions j 0)) where
     asks_here : needs_symbol (told_partner x) ≡ asks_at w
     unfolding asks walk_at
-    asks_here = rw (head_lowest w v j F.lower h (F.some h), ex) (ap needs_symbol (sym (partner_looking w j (get_or s.positions j 0))))
+    asks_here = rw (head_lowest w v j L.lower L.ranked L.some, ex) (ap needs_symbol (sym (partner_looking w j (get_or s.positions j 0))))
 
     pub asks_known : x ≡ Known → false ≡ asks_at w
     unfolding needs_symbol

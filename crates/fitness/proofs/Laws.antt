@@ -6,9 +6,12 @@ use mathlib.Core.Logic.{◌≢◌}
 use mathlib.Core.Bool.{Bool, true, false, not, ◌&&◌, ◌||◌}
 use mathlib.Core.List.{List, ◌∷◌}
 use native.Mathlib.Omega.{arith}
-use native.Mathlib.Nat.{div-lt_iff_lt-mul, pow-suc, mul-le-mul, mul-zero, div-eq_of_lt-le}
+use native.Mathlib.Nat.{zero-add, div-lt_iff_lt-mul, pow-suc, mul-le-mul, mul-zero, div-eq_of_lt-le}
 use native.Mathlib.Decide.{ℕ_discrete, dec_lt}
-use lib.ListN.{length, get_or}
+use lib.ListN.{length, get_or, take, drop, length-drop}
+use lib.Seq.{get_or-drop}
+use Rattle.std.specs.List.{list_all}
+use Rattle.std.proofs.lemmas.List.Folds.{list_all_more}
 use lib.Dec.{eqb, ltb, leb}
 use borrow.Author.Tests.{eq-eqb, ne_eqb, lt-ltb, not-true, leb-true, le-leb, lt-leb, le-ltb, not-false}
 use lib.Pow.{pow_pos}
@@ -16,25 +19,23 @@ use native.Mathlib.Numerals.{add-one}
 use Rattle.rules.specs.declared.Session.{Session}
 use Rattle.rules.specs.declared.State.{State}
 use Rattle.rules.specs.declared.Stand.{Stand}
-use Rattle.rules.specs.declared.Form.{Form}
-use Rattle.rules.specs.declared.Form.TheVariants.{One, Several}
 use Rattle.rules.specs.declared.State.TheVariants.{Header, Running, Complete, Closed, Refused}
 use Rattle.rules.specs.Lists.{all_below}
 use Rattle.rules.specs.Map.{by_dart, dim_fits, darts_fit, size, place, link, Limits}
-use Rattle.rules.specs.Bodies.{several, bodies_fit, no_bodies}
+use Rattle.rules.specs.Bodies.{bodies_fit, no_bodies}
 use Rattle.rules.specs.Exchange.{rank_at, dart_at}
 use Rattle.rules.specs.Walk.{head}
 use Rattle.rules.specs.Stream.{bits_of}
 use Rattle.rules.specs.Refusals.{among, at_header, of_index, in_step, at_end, wipes, fit_refused}
 use Rattle.rules.specs.Session.{walk_at, stand_of, walk_of, waiting_of, value_fits, only_bits, positions_fit, entry_fits, entries_fit, walk_fits, asks, begins}
-use Rattle.rules.specs.Session.{all_done, fit_as, fit}
+use Rattle.rules.specs.Session.{fit_as, fit}
 use Rattle.rules.proofs.Lists.{and_left, and_right, both, or_left, or_right, all_below_lem, below_all, PassedSoFar, unless}
 use Rattle.rules.proofs.Places.{nth_some, nth_rank, nth_dart, nth_below, rank_nth, dart_nth, dart_place, rank_at_lem, place_at, dart_before, before_dart}
 use Rattle.rules.proofs.Codes.{length_bits}
 use Rattle.tables.proofs.Laws.{entry_link, rows_few}
 use Rattle.rules.specs.Inner.{Shape}
 use Rattle.rules.proofs.Fitness.{fits_inv}
-use Rattle.fitness.specs.Parts.{falls_at, is_at, over_at, entry_by, entry_of, entry_at, all_within, known_at, open_at, blank_at, linked_at, passed_at, asks_at}
+use Rattle.fitness.specs.Parts.{falls_at, over_at, entry_by, entry_of, entry_at, all_within, known_at, open_at, blank_at, linked_at, passed_at, asks_at}
 
 -- tests whose other side is known
 and_no : (a : Bool) → (a && false) ≡ false
@@ -49,15 +50,13 @@ or_no : (a : Bool) → (a || false) ≡ a
 or_no true = refl
 or_no false = refl
 
+and_swap : (a b : Bool) → (a && b) ≡ (b && a)
+and_swap true true = refl
+and_swap true false = refl
+and_swap false true = refl
+and_swap false false = refl
+
 -- positions
-pub is_yes : (ps : List ℕ) (x i : ℕ) → get_or ps i 0 ≡ x → is_at ps x i ≡ true
-unfolding is_at
-is_yes ps x i e = eq-eqb (get_or ps i 0) x e
-
-pub is_no : (ps : List ℕ) (x i : ℕ) → get_or ps i 0 ≢ x → is_at ps x i ≡ false
-unfolding is_at
-is_no ps x i e = ne_eqb (get_or ps i 0) x e
-
 module _ (c above : ℕ) (ps : List ℕ) (i : ℕ) (e : above ≡ get_or (c ∷ ps) i 0) where
   pub falls_no : above < get_or ps i 0 → falls_at c ps i ≡ false
   unfolding falls_at
@@ -132,35 +131,23 @@ module _ {f : ℕ → Bool} {a b k bad : ℕ} (r : Faulty f a b k bad) where
   pub tallied_end : b ≤ k → eqb bad 0 ≡ all_within a b f
   tallied_end h = let e : b ≡ k = omega (arith, r.up_to) in rw e r.told
 
--- what each of the three loops asks of an entry
-module _ (t : List ℕ) (c k : ℕ) where
-  pub known_yes : get_or t k 0 < c → known_at t c k ≡ true
-  unfolding known_at
-  known_yes h = lt-ltb (get_or t k 0) c h
+-- a test of the first entries of a list, and one of a run of entries
+pub list_all_below : (f : ℕ → Bool) (l : List ℕ) (k : ℕ) → k ≤ length l → list_all f (take k l) ≡ all_below k (λ i. f (get_or l i 0))
+unfolding all_below
+list_all_below f l zero h = refl
+list_all_below f l (suc k) h =
+    rw add-one at (list_all_more f l k 0 h)
+    ∙ (and_swap _ (f (get_or l k 0)) ∙ ap (λ (b : Bool). f (get_or l k 0) && b) (list_all_below f l k (omega arith)))
 
-  pub known_no : c ≤ get_or t k 0 → known_at t c k ≡ false
-  unfolding known_at
-  known_no h = le-ltb (get_or t k 0) c h
+pub start_told : (f : ℕ → Bool) (t : List ℕ) (b : ℕ) (r : Bool) → b ≤ length t → r ≡ list_all f (take b t) → r ≡ all_within 0 b (λ k. f (get_or t k 0))
+unfolding all_within
+start_told f t b r l e = let z : b - 0 ≡ b = omega arith in e ∙ (list_all_below f t b l ∙ rw z (simp zero-add))
 
-  pub open_blank : get_or t k 0 ≡ 65535 → open_at t c k ≡ true
-  unfolding open_at
-  open_blank e = or_right (ltb (get_or t k 0) c) (eqb (get_or t k 0) 65535) (eq-eqb (get_or t k 0) 65535 e)
-
-  pub open_known : get_or t k 0 < c → open_at t c k ≡ true
-  unfolding open_at
-  open_known h = or_left (ltb (get_or t k 0) c) (eqb (get_or t k 0) 65535) (lt-ltb (get_or t k 0) c h)
-
-  pub open_no : get_or t k 0 ≢ 65535 → c ≤ get_or t k 0 → open_at t c k ≡ false
-  unfolding open_at
-  open_no e h = rw (le-ltb (get_or t k 0) c h, ne_eqb (get_or t k 0) 65535 e)
-
-pub blank_yes : (t : List ℕ) (k : ℕ) → get_or t k 0 ≡ 65535 → blank_at t k ≡ true
-unfolding blank_at
-blank_yes t k e = eq-eqb (get_or t k 0) 65535 e
-
-pub blank_no : (t : List ℕ) (k : ℕ) → get_or t k 0 ≢ 65535 → blank_at t k ≡ false
-unfolding blank_at
-blank_no t k e = ne_eqb (get_or t k 0) 65535 e
+pub run_told : (f : ℕ → Bool) (t : List ℕ) (a b : ℕ) (r : Bool) → a ≤ b → b ≤ length t → r ≡ list_all f (take (b - a) (drop a t))
+    → r ≡ all_within a b (λ k. f (get_or t k 0))
+unfolding all_within
+run_told f t a b r h l e =
+    e ∙ (list_all_below f (drop a t) (b - a) (omega (arith, length-drop a t)) ∙ simp (get_or-drop a t))
 
 -- what a rank's loop asks of dart d, whose link stands at k
 module _ (N n : ℕ) (t : List ℕ) (i d k : ℕ) (L : Limits N n t) (hi : i ≤ N) (hd : d < n) (e : k ≡ place by_dart N n i d) where
@@ -378,9 +365,6 @@ module _ (N n : ℕ) (t : List ℕ) (c : ℕ) (ps : List ℕ) (L : Limits N n t)
         go false e = e ∙ unless fits passes fits_passes e
 
 -- bits
-pub begins_many : (k x : ℕ) → 13 < k → false ≡ (leb k 13 && ltb x (2 ^ k) && begins (bits_of k x))
-begins_many k x h = rw (lt-leb k 13 h)
-
 pub begins_none : (k x : ℕ) → k ≡ 0 → eqb x 0 ≡ (leb k 13 && ltb x (2 ^ k) && begins (bits_of k x))
 unfolding begins bits_of
 begins_none k x e = rw e (go (ℕ_discrete x 0))
@@ -446,108 +430,50 @@ module _ (nr p : ℕ) where
   unfolding fit_refused at_header among
   refusal_other a b r e = rw (ne_eqb nr 1 a, ne_eqb nr 3 b) e
 
-  -- and the bodies of a record that holds it
-  module _ (F : Form) (b : ℕ) (x : Bool) (ex : x ≡ no_bodies F b) where
-    pub refused_bodies : not x ≡ true → false ≡ (fit_refused nr p && no_bodies F b)
-    refused_bodies h = rw (← ex, not-true x h, and_no)
+-- the numbers that wipe the tables
+pub wiped_read : (nr : ℕ) → 11 ≤ nr → nr ≤ 18 → wipes nr ≡ true
+unfolding all_within all_below wipes of_index in_step at_end among
+wiped_read nr h l = all_within_lem wipes 11 19 refl nr h (omega arith)
 
-    pub refused_number : not x ≡ false → (r : Bool) → r ≡ fit_refused nr p → r ≡ (fit_refused nr p && no_bodies F b)
-    refused_number h r e = rw (← ex, not-false x h, and_yes) e
+pub wiped_end : (nr : ℕ) → 21 ≤ nr → nr ≤ 23 → wipes nr ≡ true
+unfolding all_within all_below wipes of_index in_step at_end among
+wiped_end nr h l = all_within_lem wipes 21 24 refl nr h (omega arith)
 
--- the bodies by the form
-module _ (F : Form) (b : ℕ) where
-  pub none_one : F ≡ One → eqb b 0 ≡ no_bodies F b
-  unfolding no_bodies several
-  none_one e = rw e
+pub wiped_30 : (nr : ℕ) → nr ≡ 30 → wipes nr ≡ true
+unfolding wipes of_index in_step at_end among
+wiped_30 nr e = rw e
 
-  pub none_several : F ≡ Several → false ≡ no_bodies F b
-  unfolding no_bodies several
-  none_several e = rw e
+unwiped : (nr a b : ℕ) → all_within a b (λ k. not (wipes k)) ≡ true → a ≤ nr → nr < b → wipes nr ≡ false
+unwiped nr a b e h l = not-true (wipes nr) (all_within_lem (λ k. not (wipes k)) a b e nr h l)
 
-  module _ (c : ℕ) where
-    pub bodies_none : b < 1 → false ≡ bodies_fit F b c
-    unfolding bodies_fit
-    bodies_none h = rw (lt-leb 1 b h)
+pub unwiped_low : (nr : ℕ) → nr < 11 → wipes nr ≡ false
+unfolding all_within all_below wipes of_index in_step at_end among
+unwiped_low nr l = unwiped nr 0 11 refl (omega arith) l
 
-    pub bodies_over : c < b → false ≡ bodies_fit F b c
-    unfolding bodies_fit
-    bodies_over h = rw (lt-leb b c h, and_no)
+pub unwiped_mid : (nr : ℕ) → 18 < nr → nr < 21 → wipes nr ≡ false
+unfolding all_within all_below wipes of_index in_step at_end among
+unwiped_mid nr h l = unwiped nr 19 21 refl (omega arith) l
 
-    module _ (h : 1 ≤ b) (l : b ≤ c) where
-      pub bodies_one : F ≡ One → eqb b 1 ≡ bodies_fit F b c
-      unfolding bodies_fit several
-      bodies_one e = rw (le-leb 1 b h, le-leb b c l, e)
+pub unwiped_high : (nr : ℕ) → 23 < nr → nr ≢ 30 → wipes nr ≡ false
+unfolding wipes of_index in_step at_end among
+unwiped_high nr h ne =
+    rw (
+      ne_eqb nr 11 (λ e. absurd (omega arith)),
+      ne_eqb nr 12 (λ e. absurd (omega arith)),
+      ne_eqb nr 13 (λ e. absurd (omega arith)),
+      ne_eqb nr 14 (λ e. absurd (omega arith)),
+      ne_eqb nr 15 (λ e. absurd (omega arith)),
+      ne_eqb nr 16 (λ e. absurd (omega arith)),
+      ne_eqb nr 17 (λ e. absurd (omega arith)),
+      ne_eqb nr 18 (λ e. absurd (omega arith)),
+      ne_eqb nr 21 (λ e. absurd (omega arith)),
+      ne_eqb nr 22 (λ e. absurd (omega arith)),
+      ne_eqb nr 23 (λ e. absurd (omega arith)),
+      ne_eqb nr 30 ne,
+    )
 
-      pub bodies_several : F ≡ Several → true ≡ bodies_fit F b c
-      unfolding bodies_fit several
-      bodies_several e = rw (le-leb 1 b h, le-leb b c l, e)
-
--- a header session
-module _ (s : Session) where
-  pub only_dim : s.dim ≢ 0 → false ≡ only_bits s
-  unfolding only_bits
-  only_dim h = rw (ne_eqb s.dim 0 h)
-
-  pub only_darts : s.darts ≢ 0 → false ≡ only_bits s
-  unfolding only_bits
-  only_darts h = rw (ne_eqb s.darts 0 h, and_no)
-
-  pub only_count : s.count ≢ 0 → false ≡ only_bits s
-  unfolding only_bits
-  only_count h = rw (ne_eqb s.count 0 h, and_no)
-
-  module _ (p : Bool) (ep : p ≡ all_below 7 (is_at s.positions 0)) where
-    pub only_positions : not p ≡ true → false ≡ only_bits s
-    unfolding only_bits is_at
-    only_positions h = rw (← ep, not-true p h, and_no)
-
-    pub only_bodies : s.dim ≡ 0 → s.darts ≡ 0 → s.count ≡ 0 → not p ≡ false → (r : Bool) → r ≡ no_bodies s.form s.bodies → r ≡ only_bits s
-    unfolding only_bits is_at
-    only_bodies hd hn hc hp r e = rw (eq-eqb s.dim 0 hd, eq-eqb s.darts 0 hn, eq-eqb s.count 0 hc, ← ep, not-false p hp) e
-
-  abbrev fit_header : Bool
-  fit_header = (eqb s.waiting 0 || eqb s.waiting 8) && value_fits s && only_bits s
-
-  pub header_some : s.waiting ≡ 0 → s.value ≢ 0 → false ≡ fit_header
-  unfolding value_fits
-  header_some e h = rw (e, le-ltb s.value 1 (omega arith))
-
-  pub header_none : s.waiting ≡ 0 → s.value ≡ 0 → (r : Bool) → r ≡ only_bits s → r ≡ fit_header
-  unfolding value_fits only_bits
-  header_none e h r q = rw (e, lt-ltb s.value 1 (omega arith)) q
-
-  module _ (h0 : s.waiting ≢ 0) where
-    pub header_other : s.waiting ≢ 8 → false ≡ fit_header
-    header_other h = rw (ne_eqb s.waiting 0 h0, ne_eqb s.waiting 8 h)
-
-    pub header_large : s.waiting ≡ 8 → 255 < s.value → false ≡ fit_header
-    unfolding value_fits
-    header_large e h = rw (e, le-ltb s.value 256 (omega arith))
-
-    pub header_byte : s.waiting ≡ 8 → s.value ≤ 255 → (r : Bool) → r ≡ only_bits s → r ≡ fit_header
-    unfolding value_fits only_bits
-    header_byte e h r q = rw (e, lt-ltb s.value 256 (omega arith)) q
-
-  -- a complete one
-  pub done_count : s.count ≢ s.darts → false ≡ all_done s
-  unfolding all_done
-  done_count h = rw (ne_eqb s.count s.darts h)
-
-  module _ (hc : s.count ≡ s.darts) where
-    pub done_waiting : s.waiting ≢ 0 → false ≡ all_done s
-    unfolding all_done
-    done_waiting h = rw (eq-eqb s.count s.darts hc, ne_eqb s.waiting 0 h, and_no)
-
-    module _ (hw : s.waiting ≡ 0) where
-      pub done_value : s.value ≢ 0 → false ≡ all_done s
-      unfolding all_done
-      done_value h = rw (ne_eqb s.value 0 h, and_no)
-
-      pub done_positions : s.value ≡ 0 → (r : Bool) → r ≡ all_below (s.dim + 1) (is_at s.positions s.darts) → r ≡ all_done s
-      unfolding all_done is_at
-      done_positions h r e =
-          rw (eq-eqb s.count s.darts hc, eq-eqb s.waiting 0 hw, eq-eqb s.value 0 h)
-          (e ∙ (ap (λ (k : ℕ). all_below k (is_at s.positions s.darts)) (add-one s.dim) ∙ sym (and_yes _ ∙ and_yes _)))
+-- by which `wipes` is proved
+pub ruleset wipings = (wiped_read, wiped_end, wiped_30, unwiped_low, unwiped_mid, unwiped_high)
 
 -- N, n, the room and the count pass
 pub record Sized (s : Session) (t : List ℕ) : Type 0 where
@@ -645,46 +571,39 @@ module _ (s : Session) (t : List ℕ) where
         room = leb-true (size s.dim s.darts) (length t) (and_right (a && b) c all);
       }
 
-  -- running and complete, w being what `walk_fits` answered
-  module _ (w : Bool) (e : w ≡ walk_fits by_dart s t) where
-    pub running_unfit : not w ≡ true → false ≡ fit_as by_dart Running s t
-    unfolding fit_as
-    running_unfit h = rw (← e, not-true w h)
+  -- running and complete
+  pub running_unfit : walk_fits by_dart s t ≡ false → false ≡ fit_as by_dart Running s t
+  unfolding fit_as
+  running_unfit e = rw e
 
-    pub complete_unfit : not w ≡ true → false ≡ fit_as by_dart Complete s t
-    unfolding fit_as
-    complete_unfit h = rw (← e, not-true w h)
+  module _ (e : walk_fits by_dart s t ≡ true) where
+    pub limits_of : Limits s.dim s.darts t
+    limits_of = fits_limits e
 
-    module _ (hw : not w ≡ false) where
-      pub limits_of : Limits s.dim s.darts t
-      limits_of = fits_limits (sym e ∙ not-false w hw)
+    module _ (x : Stand) (ex : x ≡ stand_of s) where
+      pub shape_of : length s.positions ≡ 7 → Shape (walk_at by_dart s.dim s.darts x t)
+      shape_of seven = rw ex (fits_inv by_dart s t seven e).0.shape
 
-      pub shape_of : length s.positions ≡ 7 → (x : Stand) → x ≡ stand_of s → Shape (walk_at by_dart s.dim s.darts x t)
-      shape_of seven x ex = rw ex (fits_inv by_dart s t seven (sym e ∙ not-false w hw)).0.shape
-
-      pub complete_fit : (r : Bool) → r ≡ all_done s → r ≡ fit_as by_dart Complete s t
-      unfolding fit_as
-      complete_fit r q = rw (← e, not-false w hw) q
-
-      module _ (x : Stand) (ex : x ≡ stand_of s) (a : Bool) (ea : a ≡ asks_at (walk_at by_dart s.dim s.darts x t)) where
+      -- a being what `asks` answered
+      module _ (a : Bool) (ea : a ≡ asks_at (walk_at by_dart s.dim s.darts x t)) where
         asking : asks (walk_of by_dart s t) (head (walk_of by_dart s t)) ≡ a
         asking = sym (rw ex at ea)
 
-        pub running_still : not a ≡ true → false ≡ fit_as by_dart Running s t
+        pub running_still : a ≡ false → false ≡ fit_as by_dart Running s t
         unfolding fit_as
-        running_still h = rw (← e, not-false w hw, asking, not-true a h)
+        running_still h = rw (e, asking, h)
 
-        pub running_begun : not a ≡ false → (r : Bool)
+        pub running_begun : a ≡ true → (r : Bool)
             → r ≡ (leb s.waiting 13 && ltb s.value (2 ^ s.waiting) && begins (bits_of s.waiting s.value)) → r ≡ fit_as by_dart Running s t
         unfolding fit_as value_fits waiting_of
-        running_begun h r q = rw (← e, not-false w hw, asking, not-false a h) q
+        running_begun h r q = rw (e, asking, h) q
 
   -- the state's own case
   fit_as_lem : (st : State) → s.state ≡ st → fit_as by_dart st s t ≡ fit by_dart s t
   unfolding fit
   fit_as_lem st e = ap (λ (x : State). fit_as by_dart x s t) (sym e)
 
-  pub fit_header_lem : s.state ≡ Header → (r : Bool) → r ≡ fit_header s → r ≡ fit by_dart s t
+  pub fit_header_lem : s.state ≡ Header → (r : Bool) → r ≡ ((eqb s.waiting 0 || eqb s.waiting 8) && value_fits s && only_bits s) → r ≡ fit by_dart s t
   unfolding fit_as
   fit_header_lem e r q = q ∙ fit_as_lem Header e
 

@@ -1,10 +1,9 @@
 -- The tests of fitness one by one, over the numbers that each looks at. The rules' definitions are these at a session's fields.
-use Rattle.std.specs.Prelude.{ℕ, ◌+◌, ◌-◌, ◌/◌, ◌%◌, ◌≤◌, ◌<◌, List, ◌∷◌, Bool, not, ◌&&◌, ◌||◌, cond, get_or, eqb, ltb, leb}
+use Rattle.std.specs.Prelude.{ℕ, ◌+◌, ◌-◌, ◌/◌, ◌%◌, List, ◌∷◌, Bool, not, ◌&&◌, ◌||◌, cond, get_or, eqb, ltb, leb}
 use Rattle.rules.specs.Lists.{all_below}
 use Rattle.rules.specs.Map.{by_dart, mark, link}
 use Rattle.rules.specs.Walk.{Walk, head}
 use Rattle.rules.specs.Session.{asks}
-use Rattle.rules.specs.Inner.{Emptied}
 
 -- position i is not above the one before it, or count
 unfoldable pub falls_at : ℕ → List ℕ → ℕ → Bool
@@ -53,11 +52,6 @@ linked_at N n t i d = not (eqb (link by_dart N n t i d) mark)
 -- the darts that rank i has passed and rank N has not have links of rank i
 unfoldable pub passed_at : ℕ → ℕ → List ℕ → List ℕ → ℕ → Bool
 passed_at N n t positions i = all_within (get_or positions N 0) (get_or positions i 0) (linked_at N n t i)
-
--- the lowest queue that isn't empty is Lr, or all are empty
-pub record Found (N count : ℕ) (positions : List ℕ) (r : ℕ) : Type 0 where
-  pub lower : Emptied count positions r
-  pub some : r ≤ N → get_or positions r 0 < count
 
 -- a queue of a walk isn't empty, and its next step needs a symbol
 abbrev pub asks_at : Walk → Bool

@@ -10,7 +10,7 @@ use lib.ListN.{get_or}
 use Rattle.rules.specs.Map.{by_dart, link, Reached}
 use Rattle.rules.proofs.Lists.{or_cases, or_left, or_right}
 use Rattle.flood.specs.declared.Ranks.{Ranks}
-use Rattle.flood.specs.Flood.{kept, between, Marked, queued, entered_room, entered_tail, Queue, Extended, Linked, Traced, Around, Explored}
+use Rattle.flood.specs.Flood.{kept, between, Marked, queued, entered_room, entered_tail, IsQueue, Extended, Linked, Traced, Around, Explored}
 use Rattle.flood.specs.Flood.{LinksInside, OrbitInside, SpreadFrom, Flooding, Flooded}
 use Rattle.flood.proofs.Sets.{between_yes, between_none, between_only, kept_runs}
 use Rattle.flood.proofs.Queues.{Entered, extended_refl, extended_marked, extended_trans, extended_class, extended_place, queue_parts, entry}
@@ -51,7 +51,7 @@ module _ (ranks : Ranks) (N n : ℕ) (t : List ℕ) (d : ℕ) (L : LinksInside (
   inside_high i h k = L i h (kept_runs ranks N i h ∙ or_right (between 0 ranks.low i) (between ranks.high (N + 1) i) k)
 
 -- the queue is no shorter once a start has come up
-pub entered_later : {n start class tail tail' : ℕ} {w w' : List ℕ} → Queue n tail w → start < n → class < 2
+pub entered_later : {n start class tail tail' : ℕ} {w w' : List ℕ} → IsQueue n tail w → start < n → class < 2
     → tail' ≡ entered_tail w tail start → w' ≡ entered_room n w tail start class → tail ≤ tail'
 entered_later {n} {start} {class} {tail} {tail'} {w} {w'} Q hs hc et ew =
     let E : Entered n start class tail tail' w w' = rw (et, ew) (entry Q hs hc) in
@@ -59,16 +59,16 @@ entered_later {n} {start} {class} {tail} {tail'} {w} {w'} Q hs hc et ew =
 
 module _ {N n : ℕ} {t : List ℕ} where
   -- what was traced stays so
-  traced_on : {keep : ℕ → Bool} {d c from to tail tail' : ℕ} {w w' : List ℕ} → Queue n tail w → Extended n tail tail' w w' → to ≤ tail
+  traced_on : {keep : ℕ → Bool} {d c from to tail tail' : ℕ} {w w' : List ℕ} → IsQueue n tail w → Extended n tail tail' w w' → to ≤ tail
       → Traced keep N n t d c from to w → Traced keep N n t d c from to w'
   traced_on Q E h T p hf ht = rw (extended_place E p Q (omega arith), E.places p (omega arith)) (T p hf ht)
 
   -- no rank
-  pub spread_none : (from : ℕ) {d tail : ℕ} {w : List ℕ} → Queue n tail w → SpreadFrom (between from from) N n t d tail tail w w
+  pub spread_none : (from : ℕ) {d tail : ℕ} {w : List ℕ} → IsQueue n tail w → SpreadFrom (between from from) N n t d tail tail w w
   spread_none from Q = record { on = extended_refl Q; traced = λ p h k. absurd (omega arith); around = λ i h k. absurd (between_none from i k) }
 
   -- one rank, as the code does it
-  pub spread_one : {rank tail d class tail' : ℕ} {w w' : List ℕ} → Queue n tail w → rank ≤ N → link by_dart N n t rank d < n → get_or w d 0 < 2
+  pub spread_one : {rank tail d class tail' : ℕ} {w w' : List ℕ} → IsQueue n tail w → rank ≤ N → link by_dart N n t rank d < n → get_or w d 0 < 2
       → class ≡ 1 - get_or w d 0 → tail' ≡ entered_tail w tail (link by_dart N n t rank d) → w' ≡ entered_room n w tail (link by_dart N n t rank d) class
       → SpreadFrom (between rank (rank + 1)) N n t d tail tail' w w'
   spread_one {rank} {tail} {d} {class} {tail'} {w} {w'} Q hr hl h2 ec et ew = record { on = E.on; traced = traced; around = around }
@@ -124,7 +124,7 @@ module _ {N n : ℕ} {t : List ℕ} where
   }
 
   -- the start has come up
-  pub flooding_start : {keep : ℕ → Bool} {start class tail tail' : ℕ} {w w' : List ℕ} → Queue n tail w → start < n → class < 2
+  pub flooding_start : {keep : ℕ → Bool} {start class tail tail' : ℕ} {w w' : List ℕ} → IsQueue n tail w → start < n → class < 2
       → tail' ≡ entered_tail w tail start → w' ≡ entered_room n w tail start class → Flooding keep N n t start class tail tail' tail tail' w' w'
   flooding_start {keep} {start} {class} {tail} {tail'} {w} {w'} Q hs hc et ew = record {
     on = extended_refl E.on.queue;

@@ -10,7 +10,7 @@ use lib.ListN.{get_or}
 use Rattle.rules.specs.Map.{by_dart, mark, link, Reached, all_but, Valid}
 use Rattle.rules.proofs.Orbits.{valid_closed, reached_below, reached_sym}
 use Rattle.flood.specs.declared.Ranks.{Ranks}
-use Rattle.flood.specs.Flood.{kept, but_one, Marked, queued, Queue, Extended, Linked, Explored, OrbitInside, Flooded, Orbit}
+use Rattle.flood.specs.Flood.{kept, but_one, Marked, queued, IsQueue, Extended, Linked, Explored, OrbitInside, Flooded, Orbit}
 use Rattle.flood.proofs.Sets.{kept_but}
 use Rattle.flood.proofs.Queues.{extended_marked, extended_trans, entry}
 use Rattle.flood.proofs.Floods.{linked_reached, explored_on}
@@ -26,7 +26,7 @@ flooded_but skip {ranks} {N} {n} {t} {start} {class} {tail} {tail'} {w} {w'} e F
     subst (λ keep. Flooded keep N n t start class tail tail' w w') (ap kept e ∙ kept_but skip) F
 
 -- where the whole queue is explored all that is reached from a marked dart is marked
-pub reached_marked : {keep : ℕ → Bool} {N n tail d : ℕ} {t w : List ℕ} {e : ℕ} → Queue n tail w → Explored keep N n t 0 tail w → d < n → Marked w d
+pub reached_marked : {keep : ℕ → Bool} {N n tail d : ℕ} {t w : List ℕ} {e : ℕ} → IsQueue n tail w → Explored keep N n t 0 tail w → d < n → Marked w d
     → Reached by_dart keep N n t d e → (e < n) × Marked w e
 reached_marked Q S h m Reached.here = (h, m)
 reached_marked Q S h m (Reached.onward {e} i hi k r) =
@@ -35,14 +35,14 @@ reached_marked Q S h m (Reached.onward {e} i hi k r) =
     rw z at (S p (omega arith) hp i hi k)
 
 -- so nothing is marked of the orbit of a dart that is not
-pub orbit_unmarked : {keep : ℕ → Bool} {N n tail d e : ℕ} {t w : List ℕ} → Valid by_dart N n t → Queue n tail w → Explored keep N n t 0 tail w → d < n
+pub orbit_unmarked : {keep : ℕ → Bool} {N n tail d e : ℕ} {t w : List ℕ} → Valid by_dart N n t → IsQueue n tail w → Explored keep N n t 0 tail w → d < n
     → get_or w d 0 ≡ mark → Reached by_dart keep N n t d e → Marked w e → ⊥
 orbit_unmarked v Q S h u r m =
     let C = valid_closed v in
     (reached_marked Q S (reached_below C h r) m (reached_sym C h r)).1 u
 
 module _ {keep : ℕ → Bool} {N n : ℕ} {t : List ℕ} {start class tail tail' : ℕ} {w w' : List ℕ}
-    (Q : Queue n tail w) (hs : start < n) (hc : class < 2) (F : Flooded keep N n t start class tail tail' w w') where
+    (Q : IsQueue n tail w) (hs : start < n) (hc : class < 2) (F : Flooded keep N n t start class tail tail' w w') where
   -- what was there stays, and the start is marked
   pub flooded_on : Extended n tail tail' w w'
   flooded_on = extended_trans (entry Q hs hc).on F.on

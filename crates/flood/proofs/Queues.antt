@@ -13,14 +13,14 @@ use borrow.Author.Tests.{eqb-true, eqb-false, eq-eqb, ne_eqb}
 use Rattle.rules.specs.Map.{mark, blank}
 use Rattle.rules.proofs.Lists.{pigeonhole}
 use Rattle.rules.proofs.Places.{drop_blank}
-use Rattle.flood.specs.Flood.{Marked, queued, entered_room, entered_tail, Queue, Extended}
+use Rattle.flood.specs.Flood.{Marked, queued, entered_room, entered_tail, IsQueue, Extended}
 
 -- a dart with no mark is not in the queue
-fresh_new : {n tail d : ℕ} {w : List ℕ} → Queue n tail w → get_or w d 0 ≡ mark → (p : ℕ) → p < tail → queued n w p ≡ d → ⊥
+fresh_new : {n tail d : ℕ} {w : List ℕ} → IsQueue n tail w → get_or w d 0 ≡ mark → (p : ℕ) → p < tail → queued n w p ≡ d → ⊥
 fresh_new {n} {tail} {d} {w} Q u p h e = let c : get_or w d 0 < 2 = rw e at (Q.classes p h) in omega arith
 
 -- so the queue has room for it
-pub tail_below : {n tail d : ℕ} {w : List ℕ} → Queue n tail w → d < n → get_or w d 0 ≡ mark → tail < n
+pub tail_below : {n tail d : ℕ} {w : List ℕ} → IsQueue n tail w → d < n → get_or w d 0 ≡ mark → tail < n
 tail_below {n} {tail} {d} {w} Q hd u =
     pigeonhole (suc tail) n at (λ i h. low i h (ℕ_discrete i tail)) (λ i j h k e. alone i j h k (ℕ_discrete i tail) (ℕ_discrete j tail) e)
   where
@@ -44,10 +44,10 @@ tail_below {n} {tail} {d} {w} Q hd u =
     alone i j h k (no e) (no e') z = Q.once i j (omega arith) (omega arith) (sym (at_old i e) ∙ (z ∙ at_old j e'))
 
 -- every dart is marked exactly if the queue holds n of them
-pub full_marked : {n tail : ℕ} {w : List ℕ} → Queue n tail w → n ≤ tail → (d : ℕ) → d < n → Marked w d
+pub full_marked : {n tail : ℕ} {w : List ℕ} → IsQueue n tail w → n ≤ tail → (d : ℕ) → d < n → Marked w d
 full_marked Q h d hd u = omega (arith, tail_below Q hd u)
 
-pub marked_full : {n tail : ℕ} {w : List ℕ} → Queue n tail w → ((d : ℕ) → d < n → Marked w d) → n ≤ tail
+pub marked_full : {n tail : ℕ} {w : List ℕ} → IsQueue n tail w → ((d : ℕ) → d < n → Marked w d) → n ≤ tail
 marked_full {n} {tail} {w} Q m =
     pigeonhole n tail (λ d. at d (dec_lt d n)) (λ d h. (held d h (dec_lt d n)).0)
     (λ d e h k z. sym (held d h (dec_lt d n)).1 ∙ (ap (queued n w) z ∙ (held e k (dec_lt e n)).1))
@@ -83,8 +83,8 @@ module _ (n tail d m : ℕ) (w : List ℕ) (hd : d < n) (ht : tail < n) (room : 
   past_placed : drop (2 * n) after ≡ drop (2 * n) w
   past_placed = drop-set-lt (2 * n) (set w d m) (n + tail) d (omega arith) ∙ drop-set-lt (2 * n) w d m (omega arith)
 
-  module _ (Q : Queue n tail w) (u : get_or w d 0 ≡ mark) (hm : m < 2) where
-    queue_placed : Queue n (tail + 1) after
+  module _ (Q : IsQueue n tail w) (u : get_or w d 0 ≡ mark) (hm : m < 2) where
+    queue_placed : IsQueue n (tail + 1) after
     queue_placed = record {
       room = simp length-set room;
       short = omega arith;
@@ -117,7 +117,7 @@ module _ (n tail d m : ℕ) (w : List ℕ) (hd : d < n) (ht : tail < n) (room : 
             (p, omega arith, dart_old p k ∙ z)
 
 -- what was there stays
-pub extended_refl : {n tail : ℕ} {w : List ℕ} → Queue n tail w → Extended n tail tail w w
+pub extended_refl : {n tail : ℕ} {w : List ℕ} → IsQueue n tail w → Extended n tail tail w w
 extended_refl Q = record { queue = Q; longer = omega arith; past = refl; classes = λ d h m. refl; places = λ p h. refl }
 
 pub extended_marked : {n tail tail' d : ℕ} {w w' : List ℕ} → Extended n tail tail' w w' → d < n → Marked w d → Marked w' d
@@ -137,7 +137,7 @@ module _ {n tail tail' : ℕ} {w w' : List ℕ} (E : Extended n tail tail' w w')
   pub extended_class : {d : ℕ} → d < n → get_or w d 0 < 2 → get_or w' d 0 ≡ get_or w d 0
   extended_class {d} h h2 = E.classes d h (omega arith)
 
-  pub extended_place : (p : ℕ) → Queue n tail w → p < tail → get_or w' (queued n w' p) 0 ≡ get_or w (queued n w p) 0
+  pub extended_place : (p : ℕ) → IsQueue n tail w → p < tail → get_or w' (queued n w' p) 0 ≡ get_or w (queued n w p) 0
   extended_place p Q h = ap (λ (x : ℕ). get_or w' x 0) (E.places p h) ∙ extended_class (Q.darts p h) (Q.classes p h)
 
 -- what is new of the queue, for any fact of its darts: it holds from the first place on if it holds of the old darts and of the new
@@ -154,7 +154,7 @@ pub record Entered (n d class tail tail' : ℕ) (w w' : List ℕ) : Type 0 where
   pub marked : Marked w' d
   pub only : (p : ℕ) → tail ≤ p → p < tail' → (queued n w' p ≡ d) × (get_or w' (queued n w' p) 0 ≡ class)
 
-module _ {n tail d m : ℕ} {w : List ℕ} (Q : Queue n tail w) (hd : d < n) (hm : m < 2) where
+module _ {n tail d m : ℕ} {w : List ℕ} (Q : IsQueue n tail w) (hd : d < n) (hm : m < 2) where
   entered_placed : get_or w d 0 ≡ mark → Entered n d m tail (tail + 1) w (placed n tail d m w)
   entered_placed u = record {
     on = record {
@@ -182,6 +182,10 @@ module _ {n tail d m : ℕ} {w : List ℕ} (Q : Queue n tail w) (hd : d < n) (hm
       go true q = entered_placed (eqb-true (get_or w d 0) mark q)
       go false q = record { on = extended_refl Q; marked = eqb-false (get_or w d 0) mark q; only = λ p h k. absurd (omega arith) }
 
+-- a queue that is the same after one change and after another, by the number of darts and the room's name
+pub same_trans : {n n' n'' a a' a'' : ℕ} → (n' ≡ n) × (a' ≡ a) → (n'' ≡ n') × (a'' ≡ a') → (n'' ≡ n) × (a'' ≡ a)
+same_trans (e, b) (e', b') = (e' ∙ e, b' ∙ b)
+
 -- after the classes are blanked nothing is marked
 class_blank : (n : ℕ) (w : List ℕ) (d : ℕ) → d < n → get_or (blank n w) d 0 ≡ mark
 unfolding blank
@@ -195,7 +199,7 @@ module _ (n : ℕ) (w w' : List ℕ) (hw : 2 * n ≤ length w) (e : w' ≡ blank
   pub class_blanked : (d : ℕ) → d < n → get_or w' d 0 ≡ mark
   class_blanked d h = rw e (class_blank n w d h)
 
-  pub queue_blanked : Queue n 0 w'
+  pub queue_blanked : IsQueue n 0 w'
   queue_blanked = record {
     room = rw e (omega (arith, blank_length n w (omega arith)));
     short = omega arith;

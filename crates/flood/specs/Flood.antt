@@ -1,6 +1,10 @@
 -- What a flood does to the lent work room: the first n entries hold each dart's class, 0 or 1, or the mark;
 -- the next n the queue, the darts marked so far, in order.
 use Rattle.std.specs.Prelude.{ℕ, ◌+◌, ◌*◌, ◌-◌, ◌≤◌, ◌<◌, ◌≡◌, ◌≢◌, Bool, true, ◌&&◌, ◌||◌, cond, List, length, get_or, set, drop, eqb, ltb, leb}
+use mathlib.Core.Path.{sym, ◌∙◌}
+use mathlib.Core.HLevel.{is_prop→PathP}
+use Rattle.std.specs.Coded.{le_prop}
+use native.Mathlib.Nat.{ℕ_set}
 use Rattle.rules.specs.Map.{by_dart, mark, link, Reached}
 use Rattle.flood.specs.declared.Ranks.{Ranks}
 
@@ -41,7 +45,7 @@ unfoldable pub entered_tail : List ℕ → ℕ → ℕ → ℕ
 entered_tail w tail d = cond (eqb (get_or w d 0) mark) (tail + 1) tail
 
 -- the queue holds each marked dart once and no other dart
-pub record Queue (n tail : ℕ) (w : List ℕ) : Type 0 where
+pub record IsQueue (n tail : ℕ) (w : List ℕ) : Type 0 where
   pub room : 2 * n ≤ length w
   pub short : tail ≤ n
   pub darts : (p : ℕ) → p < tail → queued n w p < n
@@ -49,9 +53,28 @@ pub record Queue (n tail : ℕ) (w : List ℕ) : Type 0 where
   pub once : (p q : ℕ) → p < tail → q < tail → queued n w p ≡ queued n w q → p ≡ q
   pub entered : (d : ℕ) → d < n → Marked w d → (p : ℕ) × (p < tail) × (queued n w p ≡ d)
 
+-- a dart stands at one place of it at most
+place_prop : (n tail : ℕ) (w : List ℕ) → ((p q : ℕ) → p < tail → q < tail → queued n w p ≡ queued n w q → p ≡ q) → (d : ℕ)
+    → IsProp ((p : ℕ) × (p < tail) × (queued n w p ≡ d))
+place_prop n tail w once d (p, h, e) (q, k, z) =
+    let same = once p q h k (e ∙ sym z) in
+    λ i. (same i, is_prop→PathP (λ j. same j < tail) (λ j. le_prop) h k i, is_prop→PathP (λ j. queued n w (same j) ≡ d) (λ j. ℕ_set _ _) e z i)
+
+-- so there is one proof at most that it is a queue, as a struct's ghost field asks
+pub queue_prop : (n tail : ℕ) (w : List ℕ) → IsProp (IsQueue n tail w)
+queue_prop n tail w Q R =
+    let same = λ (d : ℕ). place_prop n tail w Q.once d in λ i. record {
+      room = le_prop Q.room R.room i;
+      short = le_prop Q.short R.short i;
+      darts = λ p h. le_prop (Q.darts p h) (R.darts p h) i;
+      classes = λ p h. le_prop (Q.classes p h) (R.classes p h) i;
+      once = λ p q h k e. ℕ_set p q (Q.once p q h k e) (R.once p q h k e) i;
+      entered = λ d h m. same d (Q.entered d h m) (R.entered d h m) i;
+    }
+
 -- one work room has grown into another: what was there stays
 pub record Extended (n tail tail' : ℕ) (w w' : List ℕ) : Type 0 where
-  pub queue : Queue n tail' w'
+  pub queue : IsQueue n tail' w'
   pub longer : tail ≤ tail'
   pub past : drop (2 * n) w' ≡ drop (2 * n) w
   pub classes : (d : ℕ) → d < n → Marked w d → get_or w' d 0 ≡ get_or w d 0

@@ -1,5 +1,5 @@
 // The session's calls over a record that the caller lends: each takes the record out, makes the call by value and
-// writes the new record back.
+// writes the new record back. Document 01 asks for both forms.
 #![tactic(auto)]
 
 ghost use Rattle.std.specs.Prelude.{◌≡◌};

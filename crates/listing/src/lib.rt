@@ -1,76 +1,53 @@
-// The text of a listing, put into a lent room: what the listing program prints.
+// The text of a listing, put into a lent room: what the listing program prints. `words` says why it is put by hand.
 #![tactic(auto)]
 
 ghost use Rattle.std.specs.Prelude.{◌≡◌, suc, ◌+◌, ◌*◌, ◌≤◌, length, get_or};
 ghost use Rattle.io.specs.Counts.{IsPrefixLen};
 ghost use Rattle.rules.specs.Map.{Limits};
+ghost use Rattle.tables.specs.Maps.{of};
 ghost use Rattle.words.specs.Room.{TextPut, begun};
 ghost use Rattle.words.specs.Words.{spaced, each};
 ghost use Rattle.listing.specs.Listing.{links, dart_line, dart_lines, cells_line};
 ghost use Rattle.listing.specs.Listing.{orientable_line, map_text, refusal_line, listing};
 
 use rules::{ReadAnswer, ReportAnswer};
+use tables::Map;
 
 // The links of a dart, a0 to aN.
-pub fn put_links(
-    out: &mut [u8],
-    at: usize,
-    tables: &[u16],
-    dim: usize,
-    darts: usize,
-    d: u16,
-) -> usize
-    requires { Limits dim darts tables.now × (at + 147 ≤ length out.old) }
-    ensures text_put { TextPut out.old at (links dim darts tables.now d) out.new result }
+pub fn put_links(out: &mut [u8], at: usize, map: &Map, d: u16) -> usize
+    requires { at + 147 ≤ length out.old }
+    ensures text_put { TextPut out.old at (of links map.now d) out.new result }
     ensures upper_bound { result ≤ at + 147 }
 {
     let mut end = at;
-    let mut i = 0;
-    while i <= dim {
-        end = words::put_spaced(out, end, tables::link(tables, dim, darts, i, d) as u64);
-        i += 1;
+    for i in 0..=map.dim {
+        end = words::put_spaced(out, end, u64::from(map.link(i, d)));
     }
     end
 }
 
 // A dart's line.
-pub fn put_dart(
-    out: &mut [u8],
-    at: usize,
-    tables: &[u16],
-    dim: usize,
-    darts: usize,
-    d: u16,
-) -> usize
-    requires { Limits dim darts tables.now × (at + 168 ≤ length out.old) }
-    ensures text_put { TextPut out.old at (dart_line dim darts tables.now d) out.new result }
+pub fn put_dart(out: &mut [u8], at: usize, map: &Map, d: u16) -> usize
+    requires { at + 168 ≤ length out.old }
+    ensures text_put { TextPut out.old at (of dart_line map.now d) out.new result }
     ensures upper_bound { result ≤ at + 168 }
 {
-    let number = words::put_number(out, at, d as u64);
-    let links = put_links(out, number, tables, dim, darts, d);
+    let number = words::put_number(out, at, u64::from(d));
+    let links = put_links(out, number, map, d);
     words::put(out, links, b"\n")
 }
 
 // A line for each dart.
-pub fn put_darts(out: &mut [u8], at: usize, tables: &[u16], dim: usize, darts: usize) -> usize
-    requires { Limits dim darts tables.now × (at + 168 * darts ≤ length out.old) }
-    ensures text_put { TextPut out.old at (dart_lines dim darts tables.now) out.new result }
-    ensures upper_bound { result ≤ at + 168 * darts }
+pub fn put_darts(out: &mut [u8], at: usize, map: &Map) -> usize
+    requires { at + 168 * map.now.darts ≤ length out.old }
+    ensures text_put { TextPut out.old at (of dart_lines map.now) out.new result }
+    ensures upper_bound { result ≤ at + 168 * map.now.darts }
 {
     let mut end = at;
-    let mut d = 0;
-    while d < darts {
-        end = put_dart(out, end, tables, dim, darts, d as u16);
-        d += 1;
+    for d in 0..map.darts as u16 {
+        end = put_dart(out, end, map, d);
     }
     end
-}
-
-// A count, for its digits.
-pub fn wide(n: u32) -> u64
-    ensures { result ≡ n }
-{
-    n as u64
 }
 
 // The cells of each rank.
@@ -81,10 +58,8 @@ pub fn put_counts(out: &mut [u8], at: usize, dim: usize, cells: [u32; 7]) -> usi
     ensures upper_bound { result ≤ at + 147 }
 {
     let mut end = at;
-    let mut i = 0;
-    while i <= dim {
-        end = words::put_spaced(out, end, wide(cells[i]));
-        i += 1;
+    for n in &cells[..=dim] {
+        end = words::put_spaced(out, end, u64::from(*n));
     }
     end
 }
@@ -112,40 +87,40 @@ pub fn put_orientable(out: &mut [u8], at: usize, orientable: bool) -> usize
     words::put(out, at, b"orientable no\n")
 }
 
-// The listing of a map that was read.
-pub fn put_map(
-    out: &mut [u8],
-    dim: usize,
-    darts: usize,
-    steps: u32,
-    cells: [u32; 7],
-    free: u32,
-    orientable: bool,
-    tables: &[u16],
-) -> usize
-    requires { Limits dim darts tables.now × (688407 ≤ length out.old) }
+// The listing of a map that was read, with its report.
+pub fn put_map(out: &mut [u8], a: ReadAnswer, r: ReportAnswer, tables: &[u16]) -> usize
+    requires { Limits a.dim a.darts tables.now × (688407 ≤ length out.old) }
     ensures text_put { TextPut out.old 0
-        (map_text dim darts steps cells free orientable tables.now) out.new result }
+        (map_text a.dim a.darts a.steps r.cells r.free r.orientable tables.now) out.new result }
     ensures upper_bound { result ≤ 688407 }
 {
-    let first = words::put_pair(out, 0, b"dimension", dim as u64, b" darts", darts as u64);
-    let lines = put_darts(out, first, tables, dim, darts);
-    let counts = put_cells(out, lines, dim, cells);
-    let pairs = words::put_line(out, counts, b"free", wide(free));
-    let done = words::put_line(out, pairs, b"steps", wide(steps));
-    put_orientable(out, done, orientable)
+    let dim = u64::from(a.dim);
+    let darts = u64::from(a.darts);
+    let first = words::put_pair(out, 0, b"dimension", dim, b" darts", darts);
+    let map = Map {
+        dim: a.dim as usize,
+        darts: a.darts as usize,
+        tables,
+    };
+    let lines = put_darts(out, first, &map);
+    let counts = put_cells(out, lines, map.dim, r.cells);
+    let pairs = words::put_line(out, counts, b"free", u64::from(r.free));
+    let done = words::put_line(out, pairs, b"steps", u64::from(a.steps));
+    put_orientable(out, done, r.orientable)
 }
 
-// A refusal's line.
+// A refusal's line: by its number, which may be one that a lent record holds, so no Reason.
 pub fn put_refusal(out: &mut [u8], number: u32, place: u32) -> usize
     requires { 53 ≤ length out.old }
     ensures text_put { TextPut out.old 0 (refusal_line number place) out.new result }
     ensures upper_bound { result ≤ 53 }
 {
-    words::put_pair(out, 0, b"refused", wide(number), b" at", wide(place))
+    let number = u64::from(number);
+    let place = u64::from(place);
+    words::put_pair(out, 0, b"refused", number, b" at", place)
 }
 
-// The text of a listing: what was read and its report, or the refusal of either.
+// The text of a listing: what was read and its report, or the refusal of either, by the numbers of the two answers.
 pub fn put(out: &mut [u8], a: ReadAnswer, r: ReportAnswer, tables: &[u16]) -> usize
     requires { (r.number ≡ 0 → Limits a.dim a.darts tables.now) × (688407 ≤ length out.old) }
     ensures listed { let text = listing a r tables.now in
@@ -158,15 +133,5 @@ pub fn put(out: &mut [u8], a: ReadAnswer, r: ReportAnswer, tables: &[u16]) -> us
     if r.number != 0 {
         return put_refusal(out, r.number, r.place);
     }
-    let cells = r.cells;
-    put_map(
-        out,
-        a.dim as usize,
-        a.darts as usize,
-        a.steps,
-        cells,
-        r.free,
-        r.orientable,
-        tables,
-    )
+    put_map(out, a, r, tables)
 }

@@ -11,6 +11,7 @@ use lib.Seq.{take-nil, drop-nil, take_all, take-append-le, drop-append-le, drop-
 use lib.Arith.{digits_lt}
 use lib.Pow.{pow-add, pow_pos, pow_mono, shl_exact, shr_lt}
 use borrow.Author.Tests.{lt-ltb, le-ltb}
+use Rattle.std.specs.Borrow.{MutBor}
 use Rattle.rules.specs.declared.WalkNo.{WalkNo}
 use Rattle.rules.specs.declared.Symbol.{Symbol}
 use Rattle.rules.specs.declared.Symbol.TheVariants.{New, Border, Index}
@@ -19,7 +20,7 @@ use Rattle.rules.specs.Stream.{bits_of, value, pack, code, filled}
 use Rattle.rules.specs.Writing.{page_of}
 use Rattle.rules.proofs.Codes.{length_pack, length_bits, value_lt, value_bits, value_append, value_zeros, bits_join, bits_split, filled_exact}
 use Rattle.pen.specs.declared.Pen.{Pen}
-use Rattle.pen.specs.Pens.{stored, penned, PenFits, Holds, Put, IndexFits}
+use Rattle.pen.specs.Pens.{blank_pen, stored, with_byte, penned, PenFits, Holds, Put, IndexFits}
 use Rattle.pen.proofs.Bits.{pack_front, pack_whole}
 
 -- the code's three ways to store
@@ -81,12 +82,18 @@ module _ (done : List ℕ) (x start : ℕ) (out : List ℕ) where
           more_past (omega arith) (omega arith) ∙ stored_past start (length done) x (penned done start out) (omega arith) (omega (arith, penned_length))
 
 -- nothing put, and bits after bits
-pub put_none : (start : ℕ) (pen : Pen) (out : List ℕ) → Put [] start pen pen out out
-put_none start pen out =
-    record { holds = λ bs out0 h. rw append-nil h; fits = λ k f. record { room = omega (arith, f.room); in_byte = f.in_byte; holds = f.holds } }
+pub put_none : (pen : Pen) → Put [] pen pen
+put_none pen = record {
+  start = refl;
+  same_reference = refl;
+  holds = λ bs out0 h. rw append-nil h;
+  fits = λ k f. record { room = omega (arith, f.room); in_byte = f.in_byte; holds = f.holds };
+}
 
-pub put_both : {a b : List Bool} {start : ℕ} {p q r : Pen} {o o' o'' : List ℕ} → Put a start p q o o' → Put b start q r o' o'' → Put (a ++ b) start p r o o''
-put_both {a} {b} {start} {p} {q} {r} {o} {o'} {o''} u v = record {
+pub put_both : {a b : List Bool} {p q r : Pen} → Put a p q → Put b q r → Put (a ++ b) p r
+put_both {a} {b} {p} {q} {r} u v = record {
+  start = v.start ∙ u.start;
+  same_reference = v.same_reference ∙ u.same_reference;
   holds = λ bs out0 h. rw append_assoc at (v.holds (bs ++ a) out0 (u.holds bs out0 h));
   fits = λ k f. v.fits k (u.fits (length b + k) (record { room = omega (arith, f.room, length-append a b); in_byte = f.in_byte; holds = f.holds }));
 }
@@ -102,21 +109,28 @@ module _ {k : ℕ} {pen : Pen} (f : PenFits k pen) where
   pub byte_small : (j b : ℕ) → pen.bits + j ≤ 8 → b < 2 ^ j → pen.value * 2 ^ j % 65536 + b < 256
   byte_small j b l h = rw (shifted j l) (omega (arith, gathered j h, pow_mono {i = pen.bits + j} {j = 8} l))
 
+-- the pen with more bits within a byte
+abbrev within : Pen → List Bool → Pen
+within pen more = record pen { bits = pen.bits + length more; value = pen.value * 2 ^ length more + value more }
+
+-- the pen with a byte that more bits made whole
+abbrev done : Pen → List Bool → Pen
+done pen more = record (with_byte (pen.value * 2 ^ length more + value more) pen) { at = pen.at + 1; bits = 0; value = 0 }
+
 -- bytes done, with the byte that the bits at hand and more make whole
-module _ {bs : List Bool} {start : ℕ} {out0 : List ℕ} {pen : Pen} {out : List ℕ} (h : Holds bs start out0 pen out) where
+module _ {bs : List Bool} {out0 : List ℕ} {pen : Pen} (h : Holds bs out0 pen) where
   whole : (more : List Bool) → length bs + length more ≡ 8 * suc (length bs / 8)
-      → stored start pen.at (value (drop (8 * (length bs / 8)) bs ++ more)) out ≡ penned (pack (suc (length bs / 8)) (bs ++ more)) start out0
+      → stored pen.start pen.at (value (drop (8 * (length bs / 8)) bs ++ more)) pen.out.now ≡ penned (pack (suc (length bs / 8)) (bs ++ more)) pen.start out0
   whole more w =
       let k = length bs / 8 in
       let l = length_pack k bs in
-      rw (pack_whole k bs more (omega arith) w, penned_more (pack k bs) (value (drop (8 * k) bs ++ more)) start out0, l, ← h.page, h.at)
+      rw (pack_whole k bs more (omega arith) w, penned_more (pack k bs) (value (drop (8 * k) bs ++ more)) pen.start out0, l, ← h.page, h.at)
 
   value_all : (more : List Bool) → value (drop (8 * (length bs / 8)) bs ++ more) ≡ pen.value * 2 ^ length more + value more
   value_all more = rw (value_append (drop (8 * (length bs / 8)) bs) more, h.value)
 
   -- bits within a byte
-  holds_within : (more : List Bool) → pen.bits + length more < 8
-      → Holds (bs ++ more) start out0 (record { at = pen.at; bits = pen.bits + length more; value = pen.value * 2 ^ length more + value more }) out
+  holds_within : (more : List Bool) → pen.bits + length more < 8 → Holds (bs ++ more) out0 (within pen more)
   holds_within more few =
       let n : length (bs ++ more) ≡ length bs + length more = length-append bs more in
       let hb = h.bits in
@@ -130,9 +144,7 @@ module _ {bs : List Bool} {start : ℕ} {out0 : List ℕ} {pen : Pen} {out : Lis
       }
 
   -- bits that make a byte whole
-  holds_whole : (more : List Bool) → 0 < length more → pen.bits + length more ≡ 8
-      → Holds (bs ++ more) start out0 (record { at = pen.at + 1; bits = 0; value = 0 })
-      (stored start pen.at (pen.value * 2 ^ length more + value more) out)
+  holds_whole : (more : List Bool) → 0 < length more → pen.bits + length more ≡ 8 → Holds (bs ++ more) out0 (done pen more)
   unfolding value
   holds_whole more some full =
       let n : length (bs ++ more) ≡ length bs + length more = length-append bs more in
@@ -147,9 +159,9 @@ module _ {bs : List Bool} {start : ℕ} {out0 : List ℕ} {pen : Pen} {out : Lis
       }
 
   -- the fill
-  pub fill_more : {j : ℕ} → PenFits j pen → 0 < pen.bits → (out' : List ℕ) → out' ≡ stored start pen.at (pen.value * 2 ^ (8 - pen.bits) % 65536) out
-      → out' ≡ penned (filled bs) start out0
-  fill_more f some out' e =
+  pub fill_more : {j : ℕ} → PenFits j pen → 0 < pen.bits
+      → stored pen.start pen.at (pen.value * 2 ^ (8 - pen.bits) % 65536) pen.out.now ≡ penned (filled bs) pen.start out0
+  fill_more f some =
       let hb = h.bits in
       let left = 8 - pen.bits in
       let n : length (replicate left false) ≡ left = length-replicate left false in
@@ -157,35 +169,36 @@ module _ {bs : List Bool} {start : ℕ} {out0 : List ℕ} {pen : Pen} {out : Lis
       let v : value (drop (8 * (length bs / 8)) bs ++ replicate left false) ≡ pen.value * 2 ^ left =
       rw (value_all (replicate left false), n, value_zeros left) (omega arith) in
       let g : filled bs ≡ pack (suc (length bs / 8)) (bs ++ replicate left false) = filled_exact bs left (suc (length bs / 8)) w (omega arith) in
-      rw (e, shifted f left (omega arith), g, ← v) (whole (replicate left false) (omega arith))
+      rw (shifted f left (omega arith), g, ← v) (whole (replicate left false) (omega arith))
 
-  pub fill_none : pen.bits ≡ 0 → out ≡ penned (filled bs) start out0
+  pub fill_none : pen.bits ≡ 0 → pen.out.now ≡ penned (filled bs) pen.start out0
   fill_none e =
       let hb = h.bits in
       rw (filled_exact bs 0 (length bs / 8) (omega arith) (omega arith), append-nil bs) h.page
 
 -- bits more, within a byte or to its end
-module _ (start : ℕ) (pen : Pen) (out : List ℕ) (more : List Bool) where
-  put_within : pen.bits + length more < 8
-      → Put more start pen (record { at = pen.at; bits = pen.bits + length more; value = pen.value * 2 ^ length more + value more }) out out
+module _ (pen : Pen) (more : List Bool) where
+  put_within : pen.bits + length more < 8 → Put more pen (within pen more)
   put_within few = record {
+    start = refl;
+    same_reference = refl;
     holds = λ bs out0 h. holds_within h more few;
     fits = λ k f. record { room = omega (arith, f.room); in_byte = few; holds = gathered f (length more) (value_lt more) };
   }
 
-  put_whole : 0 < length more → pen.bits + length more ≡ 8
-      → Put more start pen (record { at = pen.at + 1; bits = 0; value = 0 }) out (stored start pen.at (pen.value * 2 ^ length more + value more) out)
+  put_whole : 0 < length more → pen.bits + length more ≡ 8 → Put more pen (done pen more)
   put_whole some full = record {
+    start = refl;
+    same_reference = refl;
     holds = λ bs out0 h. holds_whole h more some full;
     fits = λ k f. record { room = omega (arith, f.room); in_byte = omega arith; holds = omega arith };
   }
 
 -- a number in k bits, at most a byte of them, as the code shifts it
 module _ {j : ℕ} {pen : Pen} (f : PenFits j pen) (v k : ℕ) (few : k ≤ 8) (small : v < 2 ^ k) where
-  pub few_within : pen.bits + k < 8 → (start : ℕ) (out : List ℕ)
-      → Put (bits_of k v) start pen (record { at = pen.at; bits = pen.bits + k; value = pen.value * 2 ^ k % 65536 + v }) out out
-  few_within l start out =
-      rw (shifted f k (omega arith)) (rw (length_bits k v, value_bits k v small) at (put_within start pen out (bits_of k v) (omega (arith, length_bits k v))))
+  pub few_within : pen.bits + k < 8 → Put (bits_of k v) pen (record pen { bits = pen.bits + k; value = pen.value * 2 ^ k % 65536 + v })
+  few_within l =
+      rw (shifted f k (omega arith)) (rw (length_bits k v, value_bits k v small) at (put_within pen (bits_of k v) (omega (arith, length_bits k v))))
 
   -- the bits that its byte wants, and those left
   module _ (many : 8 ≤ pen.bits + k) where
@@ -204,9 +217,9 @@ module _ {j : ℕ} {pen : Pen} (f : PenFits j pen) (v k : ℕ) (few : k ≤ 8) (
     pub weight_some : 0 < 1 * 2 ^ (pen.bits + k - 8) % 65536
     weight_some = rw weight (pow_pos (pen.bits + k - 8))
 
-    pub few_over : (start : ℕ) (out out' : List ℕ) → out' ≡ stored start pen.at (pen.value * 2 ^ (8 - pen.bits) % 65536 + v / 2 ^ (pen.bits + k - 8)) out
-        → Put (bits_of k v) start pen (record { at = pen.at + 1; bits = pen.bits + k - 8; value = v % (1 * 2 ^ (pen.bits + k - 8) % 65536) }) out out'
-    few_over start out out' e =
+    pub few_over : (q : Pen) → q ≡ with_byte (pen.value * 2 ^ (8 - pen.bits) % 65536 + v / 2 ^ (pen.bits + k - 8)) pen
+        → Put (bits_of k v) pen (record q { at = q.at + 1; bits = pen.bits + k - 8; value = v % (1 * 2 ^ (pen.bits + k - 8) % 65536) })
+    few_over q e =
         let i = f.in_byte in
         let room = 8 - pen.bits in
         let left = pen.bits + k - 8 in
@@ -214,13 +227,12 @@ module _ {j : ℕ} {pen : Pen} (f : PenFits j pen) (v k : ℕ) (few : k ≤ 8) (
         let lo = v % 2 ^ left in
         let n = length_bits room hi in
         let m = length_bits left lo in
-        let next : Pen = record { at = pen.at + 1; bits = 0; value = 0 } in
-        let whole : Put (bits_of room hi) start pen next out out' =
-        rw (e, shifted f room (omega arith))
-        (rw (n, value_bits room hi high_small) at (put_whole start pen out (bits_of room hi) (omega arith) (omega arith))) in
-        let rest = simp (m, value_bits left lo (mod-lt v (pow_pos left)), zero-mul, zero-add) at (put_within start next out' (bits_of left lo) (omega arith)) in
+        let next : Pen = record (with_byte (pen.value * 2 ^ room + hi) pen) { at = pen.at + 1; bits = 0; value = 0 } in
+        let full : Put (bits_of room hi) pen next =
+        rw (n, value_bits room hi high_small) at (put_whole pen (bits_of room hi) (omega arith) (omega arith)) in
+        let rest = simp (m, value_bits left lo (mod-lt v (pow_pos left)), zero-mul, zero-add) at (put_within next (bits_of left lo) (omega arith)) in
         let b : bits_of k v ≡ bits_of room hi ++ bits_of left lo = ap (λ (n : ℕ). bits_of n v) (sym halves) ∙ bits_split room left v (rw halves small) in
-        rw (weight, b) (put_both whole rest)
+        rw (e, shifted f room (omega arith), weight, b) (put_both full rest)
 
 -- a number in k bits, of which the last eight are a byte
 module _ (v k : ℕ) (byte : 8 ≤ k) (small : v < 2 ^ k) where
@@ -230,21 +242,21 @@ module _ (v k : ℕ) (byte : 8 ≤ k) (small : v < 2 ^ k) where
   pub upper_small : v / 2 ^ 8 < 2 ^ (k - 8)
   upper_small = shr_lt (k - 8) 8 (rw upper small)
 
-  module _ {start : ℕ} {p q : Pen} {o o' : List ℕ} (u : Put (bits_of (k - 8) (v / 2 ^ 8)) start p q o o') where
+  module _ {p q : Pen} (u : Put (bits_of (k - 8) (v / 2 ^ 8)) p q) where
     pub number_fits : PenFits k p → PenFits 8 q
     number_fits f = let e : length (bits_of (k - 8) (v / 2 ^ 8)) + 8 ≡ k = omega (arith, length_bits (k - 8) (v / 2 ^ 8)) in u.fits 8 (rw e f)
 
-    pub put_halves : {r : Pen} {o'' : List ℕ} → Put (bits_of 8 (v % 256)) start q r o' o'' → Put (bits_of k v) start p r o o''
+    pub put_halves : {r : Pen} → Put (bits_of 8 (v % 256)) q r → Put (bits_of k v) p r
     put_halves w =
         let b : bits_of k v ≡ bits_of (k - 8) (v / 2 ^ 8) ++ bits_of 8 (v % 256) = rw upper at (bits_split (k - 8) 8 v (rw upper small)) in rw b (put_both u w)
 
 -- the code of a symbol
 module _ {s : Symbol} where
-  pub put_new : s ≡ New → {start : ℕ} {p r : Pen} {o o' : List ℕ} → Put (bits_of 1 0) start p r o o' → Put (code (told_symbol s)) start p r o o'
+  pub put_new : s ≡ New → {p r : Pen} → Put (bits_of 1 0) p r → Put (code (told_symbol s)) p r
   unfolding code bits_of
   put_new e u = rw e u
 
-  pub put_border : s ≡ Border → {start : ℕ} {p r : Pen} {o o' : List ℕ} → Put (bits_of 2 2) start p r o o' → Put (code (told_symbol s)) start p r o o'
+  pub put_border : s ≡ Border → {p r : Pen} → Put (bits_of 2 2) p r → Put (code (told_symbol s)) p r
   unfolding code bits_of
   put_border e u = rw e u
 
@@ -252,12 +264,11 @@ module _ {s : Symbol} where
     pub index_small : IndexFits s → w.0 < 4096
     index_small h = rw e at h
 
-    pub put_index : IndexFits s → {start : ℕ} {p r : Pen} {o o' : List ℕ} → Put (bits_of 14 (3 * 4096 + w.0)) start p r o o'
-        → Put (code (told_symbol s)) start p r o o'
+    pub put_index : IndexFits s → {p r : Pen} → Put (bits_of 14 (3 * 4096 + w.0)) p r → Put (code (told_symbol s)) p r
     unfolding code bits_of
     put_index h u = rw e (rw (← bits_join 2 12 3 w.0 (omega arith) (index_small h)) at u)
 
 -- a pen at the start of a stream
-pub holds_start : (start : ℕ) (out : List ℕ) → Holds [] start out (record { at = 0; bits = 0; value = 0 }) out
+pub holds_start : (start : ℕ) (out : MutBor (List ℕ)) → Holds [] out.now (blank_pen start out)
 unfolding value pack penned page_of
-holds_start start out = record { at = refl; bits = refl; value = refl; page = rw (drop-nil {A = ℕ} start, take-nil {A = ℕ} (length out)) }
+holds_start start out = record { at = refl; bits = refl; value = refl; page = rw (drop-nil {A = ℕ} start, take-nil {A = ℕ} (length out.now)) }

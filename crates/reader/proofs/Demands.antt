@@ -5,21 +5,21 @@ use mathlib.Core.List.{List, [], ◌∷◌, ◌++◌}
 use lib.ListN.{length}
 use Rattle.rules.specs.Map.{by_dart}
 use Rattle.rules.specs.declared.ReadAnswer.{ReadAnswer}
+use Rattle.rules.specs.declared.PageAnswer.{PageAnswer}
 use Rattle.rules.specs.Stream.{unpack}
 use Rattle.rules.specs.Reading.{reading_of, answer_of, read_answer, read_tables}
 use Rattle.rules.specs.Session.{Left, close, record_for, tables_for}
 use Rattle.rules.specs.Fetch.{fetch_of, PageLeft, page_call}
 use Rattle.rules.proofs.Sessions.{whole}
 use Rattle.rules.proofs.Fetch.{pages, opening, pages_are, pages_read, never_past}
-use Rattle.records.specs.declared.Paged.{Paged}
-use Rattle.records.specs.declared.Fetching.{Fetching}
+use Rattle.records.specs.declared.Answered.{Answered}
 use Rattle.records.specs.Lefts.{left_by}
 use Rattle.records.specs.Fetches.{fetched_by}
 
 -- pages given in order, each to what the call before it has left, each call meeting the contract of `page`
 pub data Fed : List (List ℕ) → PageLeft → PageLeft → Type 0 where
   none : {x : PageLeft} → Fed [] x x
-  more : {p : List ℕ} {ps : List (List ℕ)} {x z : PageLeft} (r : Fetching) (u : List ℕ) → fetched_by r u ≡ page_call by_dart x.session p x.tables
+  more : {p : List ℕ} {ps : List (List ℕ)} {x z : PageLeft} (r : Answered PageAnswer) (u : List ℕ) → fetched_by r u ≡ page_call by_dart x.session p x.tables
       → Fed ps (fetched_by r u) z → Fed (p ∷ ps) x z
 
 fed_pages : {ps : List (List ℕ)} {x z : PageLeft} → Fed ps x z → z ≡ pages by_dart x ps
@@ -41,7 +41,7 @@ pub fed_left : (ps : List (List ℕ)) (rest t : List ℕ) (z : PageLeft) → Fed
 fed_left ps rest t z f e = rw (fed_record ps t z f) (never_past by_dart (whole ps) rest t e)
 
 -- pages from open, then one call that meets the contract of `close`: answer and tables of one call that meets the contract of `read`
-pub fed_read : (ps : List (List ℕ)) (t : List ℕ) (z : PageLeft) → Fed ps (opening t) z → (c : Paged) (v : List ℕ)
+pub fed_read : (ps : List (List ℕ)) (t : List ℕ) (z : PageLeft) → Fed ps (opening t) z → (c : Answered ReadAnswer) (v : List ℕ)
     → left_by c v ≡ close by_dart z.session z.tables
     → (a : ReadAnswer) (u : List ℕ) → (a ≡ read_answer by_dart (whole ps) t) × (u ≡ read_tables by_dart (whole ps) t) → (c.answer ≡ a) × (v ≡ u)
 unfolding left_by

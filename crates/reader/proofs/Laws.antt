@@ -13,11 +13,11 @@ use lib.Dec.{leb}
 use borrow.Author.Tests.{le-leb, lt-leb}
 use Rattle.rules.specs.declared.Session.{Session}
 use Rattle.rules.specs.declared.ReadAnswer.{ReadAnswer}
+use Rattle.rules.specs.declared.PageAnswer.{PageAnswer}
 use Rattle.rules.specs.declared.State.{State}
 use Rattle.symbols.specs.declared.Cursor.{Cursor}
 use Rattle.rules.specs.declared.Stand.{Stand}
-use Rattle.records.specs.declared.Paged.{Paged}
-use Rattle.records.specs.declared.Fetching.{Fetching}
+use Rattle.records.specs.declared.Answered.{Answered}
 use Rattle.rules.specs.declared.State.TheVariants.{Header, Running, Complete, Closed, Refused}
 use Rattle.rules.specs.declared.Form.{Form}
 use Rattle.rules.specs.Bodies.{form_of, dim_of}
@@ -36,7 +36,7 @@ use Rattle.rules.proofs.Readings.{begins_13, asks_rests, fits_dim}
 use Rattle.rules.proofs.Fitness.{walk_held, waiting_held, Fits, FitSession, fit_session, fit_shape}
 use Rattle.rules.proofs.Sessions.{record_fit, close_reads}
 use Rattle.rules.proofs.Fetch.{fetch_none, wants}
-use Rattle.symbols.specs.Cursors.{at_hand}
+use Rattle.symbols.specs.Cursors.{at_hand, CursorFits}
 use Rattle.steps.specs.Steps.{stand_in}
 use Rattle.steps.proofs.Steps.{walk_start}
 use Rattle.runs.specs.Turns.{Ready}
@@ -112,19 +112,19 @@ module _ (x y : ℕ) (hx : x < 256) (hy : y < 256) (rest : List Bool) where
       rw (l, form_is, dim_is, darts_are, rest_is)
 
 -- refused before a walk: the tables stay
-pub refused_left : (r : Paged) (nr p : ℕ) (t : List ℕ) → r.session ≡ idle_by (Refused nr p) 0 0 → r.answer ≡ plain_answer nr p
+pub refused_left : (r : Answered ReadAnswer) (nr p : ℕ) (t : List ℕ) → r.session ≡ idle_by (Refused nr p) 0 0 → r.answer ≡ plain_answer nr p
     → left_by r t ≡ leaves (Reading.refused nr p t) t
 unfolding left_by leaves store idle answer_of tables_of value
 refused_left r nr p t e f = λ i. record { session = e i; answer = f i; tables = t }
 
 -- the bits of a header that waits
-header_left : (r : Paged) (bits : List Bool) (t : List ℕ) → r.session ≡ idle_by Header (length bits) (value bits) → r.answer ≡ plain_answer 0 0
+header_left : (r : Answered ReadAnswer) (bits : List Bool) (t : List ℕ) → r.session ≡ idle_by Header (length bits) (value bits) → r.answer ≡ plain_answer 0 0
     → length bits < 16 → left_by r t ≡ leaves (reading_of by_dart bits t) t
 unfolding left_by leaves reading_of read_header
 header_left r bits t e f h = rw (lt-leb 16 (length bits) h) (unfold store idle answer_of tables_of in λ i. record { session = e i; answer = f i; tables = t })
 
 -- a header that is in: 1, 3, or the walk
-module _ (r : Paged) (F : Form) (N n : ℕ) (bits : List Bool) (t : List ℕ) where
+module _ (r : Answered ReadAnswer) (F : Form) (N n : ℕ) (bits : List Bool) (t : List ℕ) where
   pub begin_dim : r.session ≡ idle_by (Refused 1 0) 0 0 → r.answer ≡ plain_answer 1 0 → dim_fits N ≡ false
       → left_by r t ≡ leaves (begun F by_dart (dim_fits N) (leb (size N n) (length t)) N n bits t) t
   unfolding begun
@@ -164,13 +164,13 @@ pub waits_byte : (k : ℕ) → (k ≡ 0) ⊎ (k ≡ 8) → k ≢ 0 → k ≡ 8
 waits_byte k (inl e) h = absurd (h e)
 waits_byte k (inr e) h = e
 
-pub header_none : (r : Paged) (s : Session) (page t : List ℕ) → s.waiting ≡ 0 → length page ≡ 0 → r.session ≡ idle_by Header 0 0
+pub header_none : (r : Answered ReadAnswer) (s : Session) (page t : List ℕ) → s.waiting ≡ 0 → length page ≡ 0 → r.session ≡ idle_by Header 0 0
     → r.answer ≡ plain_answer 0 0 → left_by r t ≡ leaves (reading_of by_dart (waiting_of s ++ unpack page) t) t
 unfolding unpack value
 header_none r s [] t z l e f = rw (waiting_none s z) (header_left r [] t e f (omega arith))
 header_none r s (x ∷ page) t z l e f = absurd (omega arith)
 
-pub header_one : (r : Paged) (s : Session) (page t : List ℕ) → s.waiting ≡ 0 → length page ≡ 1 → get_or page 0 0 < 256
+pub header_one : (r : Answered ReadAnswer) (s : Session) (page t : List ℕ) → s.waiting ≡ 0 → length page ≡ 1 → get_or page 0 0 < 256
     → r.session ≡ idle_by Header 8 (get_or page 0 0) → r.answer ≡ plain_answer 0 0
     → left_by r t ≡ leaves (reading_of by_dart (waiting_of s ++ unpack page) t) t
 unfolding unpack
@@ -179,7 +179,7 @@ header_one r s (x ∷ []) t z l b e f =
     rw (waiting_none s z, append-nil) (header_left r (bits_of 8 x) t (e ∙ rw (length_bits 8 x, value_bits 8 x b)) f (omega (arith, length_bits 8 x)))
 header_one r s (x ∷ y ∷ page) t z l b e f = absurd (omega arith)
 
-pub header_kept : (r : Paged) (s : Session) (page t : List ℕ) → s.waiting ≡ 8 → length page ≡ 0 → s.value < 256 → r.session ≡ idle_by Header 8 s.value
+pub header_kept : (r : Answered ReadAnswer) (s : Session) (page t : List ℕ) → s.waiting ≡ 8 → length page ≡ 0 → s.value < 256 → r.session ≡ idle_by Header 8 s.value
     → r.answer ≡ plain_answer 0 0
     → left_by r t ≡ leaves (reading_of by_dart (waiting_of s ++ unpack page) t) t
 unfolding unpack
@@ -188,7 +188,7 @@ header_kept r s [] t z l b e f =
     (header_left r (bits_of 8 s.value) t (e ∙ rw (length_bits 8 s.value, value_bits 8 s.value b)) f (omega (arith, length_bits 8 s.value)))
 header_kept r s (x ∷ page) t z l b e f = absurd (omega arith)
 
-pub header_two : (r : Paged) (s : Session) (page t u : List ℕ) → s.waiting ≡ 0 → 2 ≤ length page → get_or page 0 0 < 256 → get_or page 1 0 < 256
+pub header_two : (r : Answered ReadAnswer) (s : Session) (page t u : List ℕ) → s.waiting ≡ 0 → 2 ≤ length page → get_or page 0 0 < 256 → get_or page 1 0 < 256
     → left_by r u ≡ leaves (headed (get_or page 0 0) (get_or page 1 0) (unpack (drop 2 page)) t) t
     → left_by r u ≡ leaves (reading_of by_dart (waiting_of s ++ unpack page) t) t
 unfolding unpack headed
@@ -196,7 +196,7 @@ header_two r s [] t u z l a b e = absurd (omega arith)
 header_two r s (x ∷ []) t u z l a b e = absurd (omega arith)
 header_two r s (x ∷ y ∷ page) t u z l a b e = rw (waiting_none s z, reading_begun x y a b (unpack page) t) e
 
-pub header_last : (r : Paged) (s : Session) (page t u : List ℕ) → s.waiting ≡ 8 → 1 ≤ length page → s.value < 256 → get_or page 0 0 < 256
+pub header_last : (r : Answered ReadAnswer) (s : Session) (page t u : List ℕ) → s.waiting ≡ 8 → 1 ≤ length page → s.value < 256 → get_or page 0 0 < 256
     → left_by r u ≡ leaves (headed s.value (get_or page 0 0) (unpack (drop 1 page)) t) t
     → left_by r u ≡ leaves (reading_of by_dart (waiting_of s ++ unpack page) t) t
 unfolding unpack headed
@@ -204,10 +204,10 @@ header_last r s [] t u z l a b e = absurd (omega arith)
 header_last r s (y ∷ page) t u z l a b e = rw (waiting_byte s z, reading_begun s.value y a b (unpack page) t) e
 
 -- N out of 1 to 6
-pub unfit_dim : (N : ℕ) → (N < 1) ⊎ (6 < N) → dim_fits N ≡ false
+pub unfit_dim : (N : ℕ) → (N < 1) ⊎ ((1 ≤ N) × (6 < N)) → dim_fits N ≡ false
 unfolding dim_fits
 unfit_dim N (inl h) = rw (lt-leb 1 N h)
-unfit_dim N (inr h) = rw (le-leb 1 N (omega arith), lt-leb N 6 h)
+unfit_dim N (inr (l, h)) = rw (le-leb 1 N l, lt-leb N 6 h)
 
 -- (N+1)·n fits
 pub size_small : (N n : ℕ) → N ≤ 6 → n ≤ 4096 → (N + 1) * n ≤ 28672
@@ -219,13 +219,13 @@ size_is N n = ap (λ (x : ℕ). x * n) (omega arith)
 pub begin_blank : (N n : ℕ) (t b : List ℕ) → b ≡ blank ((N + 1) * n) t → b ≡ blank (size N n) t
 begin_blank N n t b e = e ∙ ap (λ (k : ℕ). blank k t) (size_is N n)
 
-pub begin_ready : (F : Form) (N n at : ℕ) (t page : List ℕ) → (1 ≤ N) × (N ≤ 6) → (1 ≤ n) × (n ≤ 4096) → (b : List ℕ)
-    → b ≡ blank ((N + 1) * n) t → at ≤ length page
-    → Ready N n (stand_in F 1 1 (replicate 7 0)) (record { waiting = 0; value = 0; at = at; bit = 0 }) b page
-begin_ready F N n at t page hN hn b e h =
-    rw (begin_blank N n t b e)
-    (ready_start F N n (record { waiting = 0; value = 0; at = at; bit = 0 }) t page hN hn
-    (record { few = omega arith; holds = omega arith; within = h; in_byte = omega arith }) refl)
+pub begin_fits : (at : ℕ) (page : List ℕ) → at ≤ length page → CursorFits (record { waiting = 0; value = 0; at = at; bit = 0 }) page
+begin_fits at page h = record { few = omega arith; holds = omega arith; within = h; in_byte = omega arith }
+
+pub begin_ready : (F : Form) (N n at : ℕ) (t : List ℕ) → (1 ≤ N) × (N ≤ 6) → (1 ≤ n) × (n ≤ 4096) → (b : List ℕ) → b ≡ blank ((N + 1) * n) t
+    → Ready N n (stand_in F 1 1 (replicate 7 0)) (record { waiting = 0; value = 0; at = at; bit = 0 }) b
+begin_ready F N n at t hN hn b e =
+    rw (begin_blank N n t b e) (ready_start F N n (record { waiting = 0; value = 0; at = at; bit = 0 }) t hN hn refl)
 
 -- states are told apart
 abbrev state_no : State → ℕ
@@ -239,8 +239,12 @@ other : {A : Type 0} (x y z : State) → x ≡ y → x ≡ z → state_no y ≢ 
 other x y z p q h = absurd (h (ap state_no (sym p ∙ q)))
 
 -- by the state that a record has
-pub by_state : {A : Type 0} (f : State → A) (s : Session) (st : State) (x : A) → s.state ≡ st → x ≡ f st → x ≡ f s.state
-by_state f s st x q e = e ∙ ap f (sym q)
+module _ (s : Session) (t : List ℕ) {st : State} (q : s.state ≡ st) {l : Left} where
+  pub page_by : (bits : List Bool) → l ≡ page_as by_dart st s bits t → l ≡ page_as by_dart s.state s bits t
+  page_by bits e = e ∙ ap (λ (x : State). page_as by_dart x s bits t) (sym q)
+
+  pub close_by : l ≡ close_as by_dart st s t → l ≡ close_as by_dart s.state s t
+  close_by e = e ∙ ap (λ (x : State). close_as by_dart x s t) (sym q)
 
 -- a fit session with a walk
 module _ (s : Session) (t : List ℕ) (seven : length s.positions ≡ 7) (e : fit by_dart s t ≡ true) where
@@ -280,33 +284,28 @@ module _ (s : Session) (t : List ℕ) (seven : length s.positions ≡ 7) (e : fi
   waiting_value w bs es = ap (λ (x : Session). x.value) es
 
   -- a running one may go on
-  pub running_ready : (page : List ℕ) → s.state ≡ Running → Ready s.dim s.darts (stand_of s) (cursor_of s) t page
+  pub running_ready : (page : List ℕ) → s.state ≡ Running → CursorFits (cursor_of s) page × Ready s.dim s.darts (stand_of s) (cursor_of s) t
   running_ready page q = go (fit_session by_dart s t seven e)
     where
-      from : (r : Reading) → Fits by_dart r → s ≡ store r → t ≡ tables_of r t → Ready s.dim s.darts (stand_of s) (cursor_of s) t page
+      from : (r : Reading) → Fits by_dart r → s ≡ store r → t ≡ tables_of r t → CursorFits (cursor_of s) page × Ready s.dim s.darts (stand_of s) (cursor_of s) t
       from _ (Fits.header {bs} h) es et = unfold store idle in other s.state Running Header q (ap (λ (x : Session). x.state) es) (omega arith)
       from _ (Fits.running {w} {bs} v d a) es et = unfold store tables_of in walking es et
         where
-          walking : s ≡ held Running w bs → t ≡ w.links → Ready s.dim s.darts (stand_of s) (cursor_of s) t page
+          walking : s ≡ held Running w bs → t ≡ w.links → CursorFits (cursor_of s) page × Ready s.dim s.darts (stand_of s) (cursor_of s) t
           walking es et =
               let p : walk_at by_dart s.dim s.darts (stand_of s) t ≡ w = (λ i. walk_of by_dart (es i) (et i))
               ∙ walk_held by_dart Running w bs d.0 v.shape in
               let b : bits_of s.waiting s.value ≡ bs = waiting_bits w bs es in
               let ed : s.dim ≡ w.dim = dim_held w bs es in
               let ew : s.waiting ≡ length bs = waiting_length w bs es in
-              let ev : s.value ≡ value bs = waiting_value w bs es in
-              record {
-                inv = rw p v;
-                rests = rw p (asks_rests w bs a);
-                dims = omega (arith, d.1, ed);
-                fits =
-                    record { few = omega (arith, ew, begins_13 bs a.begun); holds = rw (ew, ev) (value_lt bs); within = omega arith; in_byte = omega arith };
-                begun = inr (rw (p, b) a);
-              }
+              let ev : s.value ≡ value bs = waiting_value w bs es in (
+                record { few = omega (arith, ew, begins_13 bs a.begun); holds = rw (ew, ev) (value_lt bs); within = omega arith; in_byte = omega arith },
+                record { inv = rw p v; rests = rw p (asks_rests w bs a); dims = omega (arith, d.1, ed); begun = inr (rw (p, b) a) },
+              )
       from _ (Fits.complete v d h n) es et = unfold store held in other s.state Running Complete q (ap (λ (x : Session). x.state) es) (omega arith)
       from _ (Fits.refused {nr} {p} f) es et = unfold store idle in other s.state Running (Refused nr p) q (ap (λ (x : Session). x.state) es) (omega arith)
 
-      go : FitSession by_dart s t → Ready s.dim s.darts (stand_of s) (cursor_of s) t page
+      go : FitSession by_dart s t → CursorFits (cursor_of s) page × Ready s.dim s.darts (stand_of s) (cursor_of s) t
       go (FitSession.reading r f o es et) = from r f es et
       go (FitSession.closed z) = other s.state Running Closed q z (omega arith)
       go (FitSession.refused nr p z f) = other s.state Running (Refused nr p) q z (omega arith)
@@ -338,59 +337,53 @@ after_more w [] h = absurd (omega arith)
 after_more w (b ∷ bits) h = refl
 
 -- a running session may go on from any byte of a page
-pub running_may : (s : Session) (k : Stand) → k ≡ stand_of s → (t page : List ℕ) → Ready s.dim s.darts (stand_of s) (cursor_of s) t page
-    → (at : ℕ) → at ≤ length page → Ready s.dim s.darts k (record { waiting = s.waiting; value = s.value; at = at; bit = 0 }) t page
-running_may s k ek t page y at h =
-    let f = y.fits in
-    rw ek (record {
-      inv = y.inv;
-      rests = y.rests;
-      dims = y.dims;
-      fits = record { few = f.few; holds = f.holds; within = h; in_byte = f.in_byte };
-      begun = y.begun;
-    })
+pub running_may : (s : Session) (k : Stand) → k ≡ stand_of s → (t page : List ℕ)
+    → CursorFits (cursor_of s) page × Ready s.dim s.darts (stand_of s) (cursor_of s) t → (at : ℕ) → at ≤ length page →
+    let d : Cursor = record { waiting = s.waiting; value = s.value; at = at; bit = 0 } in
+    CursorFits d page × Ready s.dim s.darts k d t
+running_may s k ek t page (f, y) at h =
+    rw ek (
+      record { few = f.few; holds = f.holds; within = h; in_byte = f.in_byte },
+      record { inv = y.inv; rests = y.rests; dims = y.dims; begun = y.begun },
+    )
 
 -- calls on the walk of a record
-module _ (r : Paged) (s : Session) (k : Stand) (ek : k ≡ stand_of s) (t : List ℕ) where
-  walk_of_lem : walk_at by_dart s.dim s.darts k t ≡ walk_of by_dart s t
-  walk_of_lem = ap (λ (x : Stand). walk_at by_dart s.dim s.darts x t) ek
-
-  pub running_goes : (page u : List ℕ) → left_by r u ≡ leaves (settle (run_all (walk_at by_dart s.dim s.darts k t) (at_hand (cursor_of s) page))) t
+module _ (r : Answered ReadAnswer) (s : Session) (t : List ℕ) where
+  pub running_goes : (k : Stand) → k ≡ stand_of s → (page u : List ℕ)
+      → left_by r u ≡ leaves (settle (run_all (walk_at by_dart s.dim s.darts k t) (at_hand (cursor_of s) page))) t
       → left_by r u ≡ leaves (go_on by_dart s (unpack page) t) t
   unfolding go_on at_hand waiting_of
-  running_goes page u e = rw walk_of_lem at e
+  running_goes k ek page u e =
+      let w : walk_at by_dart s.dim s.darts k t ≡ walk_of by_dart s t = ap (λ (x : Stand). walk_at by_dart s.dim s.darts x t) ek in
+      rw w at e
 
-  pub closed_left : r.session ≡ held_by Closed s.dim s.darts k 0 0 → r.answer ≡ good_by s.dim s.darts k
+  pub closed_left : r.session ≡ held_by Closed s.dim s.darts (stand_of s) 0 0 → r.answer ≡ good_by s.dim s.darts (stand_of s)
       → left_by r t ≡ leaves (closing (Reading.complete (walk_of by_dart s t)) t) t
   unfolding left_by leaves closing store held answer_of good_answer tables_of steps walk_at value
-  closed_left e f = λ i. record {
-    session = (e ∙ ap (λ (x : Stand). held_by Closed s.dim s.darts x 0 0) ek) i;
-    answer = (f ∙ ap (good_by s.dim s.darts) ek) i;
-    tables = t;
-  }
+  closed_left e f = λ i. record { session = e i; answer = f i; tables = t }
 
-  pub complete_none : (page : List ℕ) → length page ≡ 0 → r.session ≡ held_by Complete s.dim s.darts k 0 0 → r.answer ≡ good_by s.dim s.darts k
-      → left_by r t ≡ leaves (after_end (walk_of by_dart s t) (unpack page)) t
+  pub complete_none : (page : List ℕ) → length page ≡ 0 → r.session ≡ held_by Complete s.dim s.darts (stand_of s) 0 0
+      → r.answer ≡ good_by s.dim s.darts (stand_of s) → left_by r t ≡ leaves (after_end (walk_of by_dart s t) (unpack page)) t
   unfolding unpack after_end
-  complete_none [] l e f = rw walk_of_lem at (complete_left s.dim s.darts k t r f e)
+  complete_none [] l e f = complete_left s.dim s.darts (stand_of s) t r f e
   complete_none (x ∷ page) l e f = absurd (omega arith)
 
-  pub complete_more : (page u : List ℕ) → length page ≢ 0 → left_by r u ≡ leaves (spoiled 18 (walk_at by_dart s.dim s.darts k t)) t
+  pub complete_more : (page u : List ℕ) → length page ≢ 0 → left_by r u ≡ leaves (spoiled 18 (walk_of by_dart s t)) t
       → left_by r u ≡ leaves (after_end (walk_of by_dart s t) (unpack page)) t
   unfolding unpack
   complete_more [] u l e = absurd (l refl)
   complete_more (x ∷ page) u l e =
       let m : after_end (walk_of by_dart s t) (bits_of 8 x ++ unpack page) ≡ spoiled 18 (walk_of by_dart s t) =
       after_more (walk_of by_dart s t) (bits_of 8 x ++ unpack page) (simp length-append (omega (arith, length_bits 8 x))) in
-      rw m (rw walk_of_lem at e)
+      rw m e
 
-  pub close_running : (u : List ℕ) → left_by r u ≡ leaves (spoiled 11 (walk_at by_dart s.dim s.darts k t)) t
+  pub close_running : (u : List ℕ) → left_by r u ≡ leaves (spoiled 11 (walk_of by_dart s t)) t
       → left_by r u ≡ leaves (closing (Reading.running (walk_of by_dart s t) (waiting_of s)) t) t
   unfolding closing
-  close_running u e = rw walk_of_lem at e
+  close_running u e = e
 
 -- calls that leave the tables
-module _ (r : Paged) (s : Session) (t : List ℕ) where
+module _ (r : Answered ReadAnswer) (s : Session) (t : List ℕ) where
   pub close_header : r.session ≡ idle_by (Refused 11 0) 0 0 → r.answer ≡ plain_answer 11 0 → left_by r t ≡ leaves (closing (Reading.header (waiting_of s)) t) t
   unfolding closing
   close_header e f = refused_left r 11 0 t e f
@@ -398,6 +391,10 @@ module _ (r : Paged) (s : Session) (t : List ℕ) where
   pub unchanged_left : (a : ReadAnswer) → r.session ≡ s → r.answer ≡ a → left_by r t ≡ unchanged s t a
   unfolding left_by unchanged
   unchanged_left a e f = λ i. record { session = e i; answer = f i; tables = t }
+
+  -- the same where the answer's number is told by its reason
+  pub unchanged_number : (nr k : ℕ) → nr ≡ k → r.session ≡ s → r.answer ≡ plain_answer nr 0 → left_by r t ≡ unchanged s t (plain_answer k 0)
+  unchanged_number nr k q e f = unchanged_left (plain_answer k 0) e (f ∙ ap (λ (x : ℕ). plain_answer x 0) q)
 
 -- what is to be fetched: nothing where a refusal, a closed session or a complete one is left, and the rest of a header
 pub refused_none : (s : Session) (nr p : ℕ) → s ≡ idle_by (Refused nr p) 0 0 → 0 ≡ fetch_of s
@@ -412,16 +409,16 @@ unfolding after_end spoiled wants
 after_wants w [] = refl
 after_wants w (b ∷ bits) = refl
 
-pub complete_wants : (p : Paged) (u : List ℕ) (w : Walk) (bits : List Bool) (t : List ℕ) → left_by p u ≡ leaves (after_end w bits) t → 0 ≡ fetch_of p.session
+pub complete_wants : (p : Answered ReadAnswer) (u : List ℕ) (w : Walk) (bits : List Bool) (t : List ℕ) → left_by p u ≡ leaves (after_end w bits) t → 0 ≡ fetch_of p.session
 complete_wants p u w bits t e = sym (after_wants w bits) ∙ left_wants p u (after_end w bits) t e
 
-pub header_fetches : (r : Fetching) (k v : ℕ)
+pub header_fetches : (r : Answered PageAnswer) (k v : ℕ)
     → (read_by r ≡ record { session = idle_by Header k v; answer = plain_answer 0 0 }) × (r.answer.fetch ≡ whole_bytes (16 - k))
     → (t : List ℕ) {l : Left} → (r.session ≡ idle_by Header k v → r.answer.reading ≡ plain_answer 0 0 → left_by (read_by r) t ≡ l) → Fetches r t l
 unfolding fetch_of fetch_as
 header_fetches r k v (e, f) t h =
-    let q : r.session ≡ idle_by Header k v = ap (λ (p : Paged). p.session) e in
-    record { left = h q (ap (λ (p : Paged). p.answer) e); fetch = f ∙ sym (ap fetch_of q) }
+    let q : r.session ≡ idle_by Header k v = ap (λ (p : Answered ReadAnswer). p.session) e in
+    record { left = h q (ap (λ (p : Answered ReadAnswer). p.answer) e); fetch = f ∙ sym (ap fetch_of q) }
 
 -- the two calls, fit and not
 module _ (s : Session) (t : List ℕ) (x : Left) where
@@ -442,7 +439,7 @@ module _ (s : Session) (t : List ℕ) (x : Left) where
   close_unfit h e = rw h e
 
 -- the page call: what it leaves, with the bytes to fetch
-module _ (s : Session) (t : List ℕ) (r : Fetching) (u bytes : List ℕ) where
+module _ (s : Session) (t : List ℕ) (r : Answered PageAnswer) (u bytes : List ℕ) where
   called : {l : Left} → left_by (read_by r) u ≡ l → (f : ℕ) → r.answer.fetch ≡ f → fetched_by r u ≡ fetching l f
   unfolding fetching left_by
   called e f q =
@@ -455,17 +452,17 @@ module _ (s : Session) (t : List ℕ) (r : Fetching) (u bytes : List ℕ) where
       let q = page_as_lem s t (left_by (read_by r) u) bytes h e.left in
       rw h (called q (fetch_of (page by_dart s bytes t).session) (e.fetch ∙ ap (λ (y : Left). fetch_of y.session) q))
 
-  pub page_refused : fit by_dart s t ≡ false → (p : Paged) → (read_by r ≡ p) × (r.answer.fetch ≡ 0) → left_by p u ≡ unchanged s t (plain_answer 19 0)
+  pub page_refused : fit by_dart s t ≡ false → (p : Answered ReadAnswer) → (read_by r ≡ p) × (r.answer.fetch ≡ 0) → left_by p u ≡ unchanged s t (plain_answer 19 0)
       → fetched_by r u ≡ page_call by_dart s bytes t
   unfolding page_call
-  page_refused h p (e, f) q = rw h (called (page_unfit s t (left_by (read_by r) u) bytes h (ap (λ (y : Paged). left_by y u) e ∙ q)) 0 f)
+  page_refused h p (e, f) q = rw h (called (page_unfit s t (left_by (read_by r) u) bytes h (ap (λ (y : Answered ReadAnswer). left_by y u) e ∙ q)) 0 f)
 
 -- nothing waits in a new session
 pub opened_bits : (s : Session) → s ≡ opened → ((s.waiting ≡ 0) ⊎ (s.waiting ≡ 8)) × (s.value < 256)
 opened_bits s e = (inl (ap (λ (x : Session). x.waiting) e), omega (arith, ap (λ (x : Session). x.value) e))
 
 -- a whole read: the record and the tables for all the bytes, closed
-module _ (r : Paged) (bytes t u : List ℕ) (o : Session) (eo : o ≡ opened)
+module _ (r : Answered ReadAnswer) (bytes t u : List ℕ) (o : Session) (eo : o ≡ opened)
     (e : left_by r u ≡ leaves (reading_of by_dart (waiting_of o ++ unpack bytes) t) t) where
   all_read : left_by r u ≡ leaves (reading_of by_dart (unpack bytes) t) t
   all_read = e ∙ ap (λ (s : Session). leaves (reading_of by_dart (waiting_of s ++ unpack bytes) t) t) eo ∙ rw (waiting_none opened refl)
@@ -481,7 +478,7 @@ module _ (r : Paged) (bytes t u : List ℕ) (o : Session) (eo : o ≡ opened)
   pub read_fit : fit by_dart r.session u ≡ true
   read_fit = (λ i. fit by_dart (record_read i) (tables_read i)) ∙ record_fit by_dart bytes t
 
-  pub read_closed : (q : Paged) (v : List ℕ) → left_by q v ≡ close_as by_dart r.session.state r.session u
+  pub read_closed : (q : Answered ReadAnswer) (v : List ℕ) → left_by q v ≡ close_as by_dart r.session.state r.session u
       → (q.answer ≡ read_answer by_dart bytes t) × (v ≡ read_tables by_dart bytes t)
   unfolding left_by
   read_closed q v f =

@@ -6,7 +6,7 @@ use mathlib.Core.Bool.{Bool, true, false, not, not-not}
 use mathlib.Core.List.{List, [], ◌++◌}
 use native.Mathlib.Omega.{arith}
 use native.Mathlib.Numerals.{add-one}
-use lib.Pow.{pow_pos, shl_exact, low}
+use lib.Pow.{shl_exact, low}
 use lib.ListN.{length, get_or, take, drop, length-append, length-drop, take-append-drop, drop_of_length-le}
 use lib.Seq.{drop-nil, take_at, drop-append-le, drop-cons}
 use lib.Dec.{eqb, ltb}
@@ -34,6 +34,13 @@ low_bits b j k x e h =
     rw l at (sym (value_append (take b bs) (drop b bs))) ∙ (ap value (take-append-drop b bs) ∙ value_bits k x h) in
     let s : value (drop b bs) < 2 ^ j = rw l at (value_lt (drop b bs)) in
     sym (sym (ap (λ (y : ℕ). y % 2 ^ j) q) ∙ low (value (take b bs)) j s)
+
+-- the bits of a byte from one after the first on, by a shift
+pub set_bits : (b x r : ℕ) → 1 ≤ b → b < 8 → x < 256 → r ≡ 1 * 2 ^ (8 - b) % 256 → not (not (eqb (x % r) 0)) ≡ eqb (value (drop b (bits_of 8 x))) 0
+set_bits b x r pos in_byte small er =
+    let w : r ≡ 2 ^ (8 - b) = er ∙ (shl_exact 1 (8 - b) 8 (omega arith) (omega arith) ∙ omega arith) in
+    let v : x % r ≡ value (drop b (bits_of 8 x)) = rw w (sym (low_bits b (8 - b) 8 x (omega arith) small)) in
+    not-not (eqb (x % r) 0) ∙ ap (λ (y : ℕ). eqb y 0) v
 
 -- no bit waits: the page's bits are at hand
 module _ (c : Cursor) (page : List ℕ) (fits : CursorFits c page) (none : c.waiting ≡ 0) where
@@ -77,24 +84,17 @@ module _ (c : Cursor) (page : List ℕ) (fits : CursorFits c page) (none : c.wai
         let e : length (at_hand c page) % 8 ≡ 0 = omega (arith, hand_length) in
         rw e
 
-    pub fill_some : c.bit ≢ 0 → get_or page c.at 0 < 256 → (r : ℕ) → r ≡ 1 * 2 ^ (8 - c.bit) % 256
-        → not (not (eqb (get_or page c.at 0 % r) 0)) ≡ eqb (value (take (length (at_hand c page) % 8) (at_hand c page))) 0
-    fill_some nz small r er =
+    pub fill_some : c.bit ≢ 0 → (y : Bool) → not y ≡ eqb (value (drop c.bit (bits_of 8 (get_or page c.at 0)))) 0
+        → not y ≡ eqb (value (take (length (at_hand c page) % 8) (at_hand c page))) 0
+    fill_some nz y ey =
         let x = get_or page c.at 0 in
         let b = c.bit in
         let rest = unpack (drop (suc c.at) page) in
         let hb = fits.in_byte in
         let pos : 0 < c.bit = omega arith in
-        let w : r ≡ 2 ^ (8 - b) = er ∙ (shl_exact 1 (8 - b) 8 (omega arith) (omega arith) ∙ omega arith) in
         let e : length (at_hand c page) % 8 ≡ 8 - b = omega (arith, hand_length) in
         let t : take (8 - b) (at_hand c page) ≡ drop b (bits_of 8 x) = rw hand_byte (take_at (drop b (bits_of 8 x)) rest (8 - b) byte_length) in
-        let v : x % r ≡ value (take (length (at_hand c page) % 8) (at_hand c page)) = rw (e, t, w) (sym (low_bits b (8 - b) 8 x (omega arith) small)) in
-        not-not (eqb (x % r) 0) ∙ ap (λ (y : ℕ). eqb y 0) v
-
-    pub weight_some : c.bit ≢ 0 → 0 < 1 * 2 ^ (8 - c.bit) % 256
-    weight_some nz =
-        let pos : 0 < c.bit = omega arith in
-        omega (arith, shl_exact {a = 1} 1 (8 - c.bit) 8 (omega arith) (omega arith), pow_pos (8 - c.bit))
+        rw (e, t) ey
 
     pub after_whole : c.bit ≡ 0 → false ≡ eqb (length (at_hand c page) / 8) 0
     after_whole z = sym (ne_eqb (length (at_hand c page) / 8) 0 (λ e. omega (arith, hand_length)))

@@ -1,5 +1,6 @@
 -- What a session, an answer and tables leave, one way through the code at a time: refused and spoiled, held, the walk's end, and where a run leaves off.
 use Prim.Native.Nat.{ℕ, suc, ◌+◌, ◌*◌, ◌/◌, ◌%◌, ◌≤◌}
+use Rattle.std.specs.Prelude.{Result, Ok, Err}
 use mathlib.Core.Path.{◌≡◌, refl, ap, sym, ◌∙◌}
 use mathlib.Core.Logic.{◌≢◌}
 use mathlib.Core.Bool.{Bool, true, false, not}
@@ -10,12 +11,14 @@ use lib.Dec.{eqb}
 use borrow.Author.Tests.{eqb-true, eq-eqb, ne_eqb, not-true, not-false}
 use Rattle.rules.specs.declared.Form.{Form}
 use Rattle.rules.specs.declared.Form.TheVariants.{One, Several}
+use Rattle.rules.specs.declared.Reason.{Reason}
 use Rattle.rules.specs.declared.Session.{Session}
 use Rattle.rules.specs.declared.ReadAnswer.{ReadAnswer}
 use Rattle.rules.specs.declared.State.TheVariants as state
 use Rattle.rules.specs.Lists.{sum}
 use Rattle.rules.specs.Map.{by_dart, Limits, blank, pairs_of, first_broken}
 use Rattle.rules.specs.Bodies.{several, end_number}
+use Rattle.rules.specs.Refusals.{number_of}
 use Rattle.rules.specs.Walk.{Walk, link_of, steps}
 use Rattle.rules.specs.Inner.{gone}
 use Rattle.rules.proofs.Positions.{over}
@@ -24,28 +27,24 @@ use Rattle.tables.specs.Darts.{Inside}
 use Rattle.rules.specs.Stream.{value}
 use Rattle.rules.specs.Reading.{Run, run_all, Reading, spoiled, test, bodies_found, manifold, finish, settle, good_answer, plain_answer, answer_of, tables_of}
 use Rattle.rules.specs.Session.{Left, idle, held, store, leaves, walk_at}
-use Rattle.symbols.specs.declared.Cursor.{Cursor}
+use Rattle.symbols.specs.declared.bits.Bits.{Bits}
 use Rattle.symbols.specs.Cursors.{at_hand}
+use Rattle.symbols.specs.Bits.{of}
 use Rattle.rules.specs.declared.Stand.{Stand}
 use Rattle.runs.specs.declared.Ran.{Ran}
-use Rattle.runs.specs.declared.Signal.{Signal}
-use Rattle.runs.specs.declared.Signal.TheVariants.{Ended, Waits, Refused}
+use Rattle.runs.specs.declared.Stop.{Stop}
+use Rattle.runs.specs.declared.Stop.TheVariants.{Waits, Refused}
 use Rattle.runs.specs.Runs.{signal_run, told_run, Runs}
-use Rattle.records.specs.declared.Paged.{Paged}
+use Rattle.records.specs.declared.Answered.{Answered}
 use Rattle.records.specs.Lefts.{left_by, idle_by, held_by, good_by, found_by, Settles}
 
-left_of : (r : Paged) (t' : List ℕ) (s : Session) (a : ReadAnswer) (t : List ℕ) → r.session ≡ s → r.answer ≡ a → t' ≡ t
+left_of : (r : Answered ReadAnswer) (t' : List ℕ) (s : Session) (a : ReadAnswer) (t : List ℕ) → r.session ≡ s → r.answer ≡ a → t' ≡ t
     → left_by r t' ≡ record { session = s; answer = a; tables = t }
 unfolding left_by
 left_of r t' s a t p q e = λ i. record { session = p i; answer = q i; tables = e i }
 
--- the steps of a good answer
-pub answer_steps : {p : ℕ} (N n : ℕ) (s : Stand) → p ≡ sum s.positions
-    → ◌≡◌ {A = ReadAnswer} (record { number = 0; place = 0; steps = p; dim = N; darts = n }) (good_by N n s)
-answer_steps N n s e = λ i. record { number = 0; place = 0; steps = e i; dim = N; darts = n }
-
 -- refused, and the map's entries are the mark
-pub spoiled_left : (nr N n : ℕ) (s : Stand) (t t' : List ℕ) (r : Paged) (p : ℕ) → p ≡ sum s.positions → t' ≡ blank ((N + 1) * n) t
+pub spoiled_left : (nr N n : ℕ) (s : Stand) (t t' : List ℕ) (r : Answered ReadAnswer) (p : ℕ) → p ≡ sum s.positions → t' ≡ blank ((N + 1) * n) t
     → (r.session ≡ idle_by (state.Refused nr p) 0 0) × (r.answer ≡ plain_answer nr p) → left_by r t' ≡ leaves (spoiled nr (walk_at by_dart N n s t)) t
 unfolding leaves store idle answer_of tables_of spoiled steps walk_at value
 spoiled_left nr N n s t t' r p ep et h =
@@ -56,7 +55,7 @@ spoiled_left nr N n s t t' r p ep et h =
     (et ∙ ap (λ (x : ℕ). blank x t) k)
 
 -- a walk is held
-module _ (N n : ℕ) (s : Stand) (t : List ℕ) (r : Paged) (answers : r.answer ≡ good_by N n s) where
+module _ (N n : ℕ) (s : Stand) (t : List ℕ) (r : Answered ReadAnswer) (answers : r.answer ≡ good_by N n s) where
   pub complete_left : r.session ≡ held_by state.Complete N n s 0 0 → left_by r t ≡ leaves (Reading.complete (walk_at by_dart N n s t)) t
   unfolding leaves store held answer_of good_answer tables_of steps walk_at value
   complete_left e =
@@ -76,7 +75,7 @@ found_whole One B k n e w = eqb-true k n e
 found_whole Several B k n e w = w refl
 
 -- the walk's end, test by test
-module _ (N n : ℕ) (s : Stand) (t : List ℕ) (bs : List Bool) (r : Paged) (t' : List ℕ) (f : Bool) (ef : f ≡ found_by s.form s.bodies s.count n) where
+module _ (N n : ℕ) (s : Stand) (t : List ℕ) (bs : List Bool) (r : Answered ReadAnswer) (t' : List ℕ) (f : Bool) (ef : f ≡ found_by s.form s.bodies s.count n) where
   way_bodies : not f ≡ true → finish (walk_at by_dart N n s t) bs ≡ spoiled (end_number s.form) (walk_at by_dart N n s t)
   unfolding finish test bodies_found walk_at
   way_bodies h = rw (sym ef ∙ not-true f h)
@@ -120,16 +119,16 @@ module _ (N n : ℕ) (s : Stand) (t : List ℕ) (bs : List Bool) (r : Paged) (t'
         end_complete h e = e ∙ ap (λ (y : Reading). leaves y t) (sym (way_complete h))
 
 -- where a run leaves off, by its signal
-module _ (w : Walk) (bs : List Bool) (t : List ℕ) (l : Left) (x : Signal) where
-  pub settled_refused : (nr : ℕ) → x ≡ Refused nr → l ≡ leaves (spoiled nr w) t → l ≡ leaves (settle (signal_run x w bs)) t
+module _ (w : Walk) (bs : List Bool) (t : List ℕ) (l : Left) (x : Result (Unit {0}) Stop) where
+  pub settled_refused : (r : Reason) → x ≡ Err (Refused r) → l ≡ leaves (spoiled (number_of r) w) t → l ≡ leaves (settle (signal_run x w bs)) t
   unfolding settle signal_run
-  settled_refused nr q e = rw q e
+  settled_refused r q e = rw q e
 
-  pub settled_ended : x ≡ Ended → l ≡ leaves (finish w bs) t → l ≡ leaves (settle (signal_run x w bs)) t
+  pub settled_ended : x ≡ Ok tt → l ≡ leaves (finish w bs) t → l ≡ leaves (settle (signal_run x w bs)) t
   unfolding settle signal_run
   settled_ended q e = rw q e
 
-  pub settled_waits : (k : ℕ) → x ≡ Waits k → l ≡ leaves (Reading.running w bs) t → l ≡ leaves (settle (signal_run x w bs)) t
+  pub settled_waits : (k : ℕ) → x ≡ Err (Waits k) → l ≡ leaves (Reading.running w bs) t → l ≡ leaves (settle (signal_run x w bs)) t
   unfolding settle signal_run
   settled_waits k q e = rw q e
 
@@ -151,7 +150,7 @@ settle_same (Run.waits w bs) t u = refl
 settle_same (Run.refused nr w) t u = refl
 
 -- a run, and where it leaves the session
-module _ (N n : ℕ) (s : Stand) (c : Cursor) (t page : List ℕ) (dims : 1 ≤ N) (r : Ran) (t' : List ℕ) (h : Runs N n s c t page r t') where
+module _ (N n : ℕ) (s : Stand) (c : Bits) (t : List ℕ) (dims : 1 ≤ N) (r : Ran) (t' : List ℕ) (h : Runs N n s c t r t') where
   run_limits : Limits N n t'
   unfolding walk_at
   run_limits =
@@ -159,7 +158,7 @@ module _ (N n : ℕ) (s : Stand) (c : Cursor) (t page : List ℕ) (dims : 1 ≤ 
       record { dims = (dims, x.ranks); darts = (omega (arith, x.some, x.within), x.small); room = x.table }
 
   -- at the walk's end every link of a numbered dart is known, and is a numbered dart
-  run_inside : r.signal ≡ Ended → r.stand.count ≡ n → Inside N n t'
+  run_inside : r.signal ≡ Ok tt → r.stand.count ≡ n → Inside N n t'
   unfolding walk_at run_all signal_run link_of gone
   run_inside e q = record {
     inside = λ i d hi hd.
@@ -170,13 +169,12 @@ module _ (N n : ℕ) (s : Stand) (c : Cursor) (t page : List ℕ) (dims : 1 ≤ 
         omega (arith, v.links.far i d hi hd k);
   }
 
-  pub run_settles : Settles N n r t' page
+  pub run_settles : Settles N n r t'
   run_settles = record {
     limits = run_limits;
-    ends = λ e. record { limits = run_limits; fits = h.fits; clean = h.clean e; inside = run_inside e; whole = h.whole e };
-    fits = h.fits;
+    ends = λ e. record { limits = run_limits; clean = h.clean e; inside = run_inside e; whole = h.whole e };
     short = h.short;
   }
 
-  pub run_left : (l : Left) → l ≡ leaves (settle (told_run N n r t' page)) t' → l ≡ leaves (settle (run_all (walk_at by_dart N n s t) (at_hand c page))) t
-  run_left l e = e ∙ (ap (λ (x : Run). leaves (settle x) t') h.tells ∙ settle_same (run_all (walk_at by_dart N n s t) (at_hand c page)) t' t)
+  pub run_left : (l : Left) → l ≡ leaves (settle (told_run N n r t')) t' → l ≡ leaves (settle (run_all (walk_at by_dart N n s t) (of at_hand c))) t
+  run_left l e = e ∙ (ap (λ (x : Run). leaves (settle x) t') h.tells ∙ settle_same (run_all (walk_at by_dart N n s t) (of at_hand c)) t' t)

@@ -1,5 +1,5 @@
 -- What a call leaves, as the rules tell it: the record, the answer and the tables in one.
-use Rattle.std.specs.Prelude.{ℕ, ◌≡◌, Bool, true, List, [], ◌∷◌}
+use Rattle.std.specs.Prelude.{ℕ, ◌≡◌, Bool, true, List, [], ◌∷◌, Ok, Err}
 use Rattle.rules.specs.declared.Form.{Form}
 use Rattle.rules.specs.declared.Form.TheVariants.{One}
 use Rattle.rules.specs.declared.Session.{Session}
@@ -10,18 +10,19 @@ use Rattle.rules.specs.Map.{by_dart, Limits}
 use Rattle.rules.specs.Bodies.{several}
 use Rattle.rules.specs.Stream.{Taken, take_symbol}
 use Rattle.symbols.specs.declared.Cursor.{Cursor}
-use Rattle.symbols.specs.Cursors.{at_hand, CursorFits}
+use Rattle.symbols.specs.Cursors.{at_hand}
+use Rattle.symbols.specs.Bits.{of}
 use Rattle.tables.specs.Darts.{Inside}
 use Rattle.rules.specs.declared.Stand.{Stand}
 use Rattle.runs.specs.declared.Ran.{Ran}
-use Rattle.runs.specs.declared.Signal.TheVariants.{Ended, Waits}
+use Rattle.runs.specs.declared.Stop.TheVariants.{Waits}
 use Rattle.rules.specs.Reading.{bodies_found}
 use Rattle.rules.specs.Session.{Left, walk_at}
 use Rattle.steps.specs.Steps.{stand_in}
-use Rattle.records.specs.declared.Paged.{Paged}
+use Rattle.records.specs.declared.Answered.{Answered}
 
 -- a session and an answer, with the tables as they stand
-unfoldable pub left_by : Paged → List ℕ → Left
+unfoldable pub left_by : Answered ReadAnswer → List ℕ → Left
 left_by r t = record { session = r.session; answer = r.answer; tables = t }
 
 -- a state with waiting bits as numbers, every other number 0, the form one-body
@@ -61,16 +62,14 @@ abbrev pub found_by : Form → ℕ → ℕ → ℕ → Bool
 found_by F B k n = bodies_found (walk_at by_dart 0 n (stand_in F B k []) [])
 
 -- a walk ended at the cursor c: no bits wait, every link is a dart if all darts are numbered, and in the several form they are
-pub record Ends (N n : ℕ) (s : Stand) (c : Cursor) (t page : List ℕ) : Type 0 where
+pub record Ends (N n : ℕ) (s : Stand) (c : Cursor) (t : List ℕ) : Type 0 where
   pub limits : Limits N n t
-  pub fits : CursorFits c page
   pub clean : c.waiting ≡ 0
   pub inside : s.count ≡ n → Inside N n t
   pub whole : several s.form ≡ true → s.count ≡ n
 
 -- what a run owes the session that it leaves: where it waits the bits left run out within a symbol, with so many to come
-pub record Settles (N n : ℕ) (r : Ran) (t page : List ℕ) : Type 0 where
+pub record Settles (N n : ℕ) (r : Ran) (t : List ℕ) : Type 0 where
   pub limits : Limits N n t
-  pub ends : r.signal ≡ Ended → Ends N n r.stand r.cursor t page
-  pub fits : CursorFits r.cursor page
-  pub short : (k : ℕ) → r.signal ≡ Waits k → take_symbol (at_hand r.cursor page) ≡ Taken.short k
+  pub ends : r.signal ≡ Ok tt → Ends N n r.stand r.bits.cursor t
+  pub short : (k : ℕ) → r.signal ≡ Err (Waits k) → take_symbol (of at_hand r.bits) ≡ Taken.short k

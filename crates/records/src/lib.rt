@@ -2,37 +2,33 @@
 // the session.
 #![tactic(auto)]
 
-ghost use Rattle.std.specs.Prelude.{◌≡◌, not, ℕ, ◌≤◌, ◌<◌, ◌%◌, ◌/◌, length, take, eqb};
+ghost use Rattle.std.specs.Prelude.{◌≡◌, not, ℕ, ◌≤◌, ◌<◌, ◌%◌, ◌/◌, length, take, drop, eqb};
 ghost use Rattle.rules.specs.Lists.{sum};
 ghost use Rattle.rules.specs.Map.{by_dart, Limits};
 ghost use Rattle.rules.specs.Bodies.{end_number};
-ghost use Rattle.rules.specs.Stream.{value};
+ghost use Rattle.rules.specs.Refusals.{number_of};
+ghost use Rattle.rules.specs.Stream.{bits_of, value};
 ghost use Rattle.rules.specs.Reading as reading;
 ghost use Rattle.rules.specs.Reading.{plain_answer, run_all};
 ghost use Rattle.rules.specs.Session.{leaves, walk_at};
 ghost use Rattle.rules.specs.Fetch.{whole_bytes};
-ghost use Rattle.symbols.specs.Cursors.{CursorFits, at_hand};
+ghost use Rattle.symbols.specs.Cursors.{at_hand};
+ghost use Rattle.symbols.specs.Bits.{of};
 ghost use Rattle.runs.specs.Turns.{Ready};
 ghost use Rattle.runs.specs.Runs.{told_run};
 ghost use Rattle.records.specs.Lefts.{left_by, idle_by, held_by, good_by, found_by, Ends, Settles};
 ghost use Rattle.records.specs.Fetches.{read_by, signal_fetch, Fetches};
 
-use rules::{Form, PageAnswer, ReadAnswer, Session, Stand, State};
-use runs::{Ran, Signal};
-use symbols::Cursor;
+use rules::{Form, PageAnswer, ReadAnswer, Reason, Session, Stand, State};
+use runs::{Ran, Stop};
+use symbols::Bits;
+use tables::Map;
 
-// A session and the answer of a reading.
+// A session and the answer of a call: of a reading, or of a page.
 #[derive(Clone, Copy)]
-pub struct Paged {
+pub struct Answered<A> {
     pub session: Session,
-    pub answer: ReadAnswer,
-}
-
-// A session and the answer of a page.
-#[derive(Clone, Copy)]
-pub struct Fetching {
-    pub session: Session,
-    pub answer: PageAnswer,
+    pub answer: A,
 }
 
 // The least number of whole bytes that have so many bits.
@@ -43,19 +39,22 @@ pub fn whole_bytes(bits: u32) -> u32
     (bits + 7) / 8
 }
 
-// A page's answer, with so many bytes to fetch.
-pub fn asking(left: Paged, fetch: u32) -> Fetching
-    ensures { (read_by result ≡ left) × (result.answer.fetch ≡ fetch) }
-{
-    let session = left.session;
-    let reading = left.answer;
-    Fetching {
-        session,
-        answer: PageAnswer { reading, fetch },
+impl Answered<ReadAnswer> {
+    // A page's answer, with so many bytes to fetch.
+    pub fn asking(self, fetch: u32) -> Answered<PageAnswer>
+        ensures { (read_by result ≡ self) × (result.answer.fetch ≡ fetch) }
+    {
+        Answered {
+            session: self.session,
+            answer: PageAnswer {
+                reading: self.answer,
+                fetch,
+            },
+        }
     }
 }
 
-// N and n are 0; on a refusal the step count is the place.
+// N and n are 0; on a refusal the step count is the place. By a number, which may be any: a lent record's is repeated.
 pub fn plain(number: u32, place: u32) -> ReadAnswer
     ensures { result ≡ plain_answer number place }
 {
@@ -68,15 +67,17 @@ pub fn plain(number: u32, place: u32) -> ReadAnswer
     }
 }
 
-// The record stays as given.
-pub fn unchanged(s: Session, number: u32, place: u32) -> Paged
+// The record stays as given; the number, as in `plain`, may be one that it holds.
+pub fn unchanged(s: Session, number: u32, place: u32) -> Answered<ReadAnswer>
     ensures { (result.session ≡ s) × (result.answer ≡ plain_answer number place) }
 {
     let answer = plain(number, place);
-    Paged { session: s, answer }
+    Answered { session: s, answer }
 }
 
-// A state with waiting bits, every other number 0, the form one-body.
+// A state with waiting bits, every other number 0, the form one-body. The bits and their value are two numbers here and
+// below, as document 01 has them in the record. `Session::open` stands in `rules`, which does not know this crate, and
+// likewise `stored::unfit` beside `plain`.
 pub fn idle(state: State, waiting: u16, value: u16) -> Session
     ensures { result ≡ idle_by state waiting value }
 {
@@ -97,58 +98,67 @@ pub fn idle(state: State, waiting: u16, value: u16) -> Session
 pub fn steps_of(positions: [u16; 7]) -> u32
     ensures { result ≡ sum positions }
 {
-    let mut sum: u32 = 0;
-    let mut i = 0;
-    while i < Session::RANKS {
-        sum += positions[i] as u32;
-        i += 1;
+    let mut steps = 0;
+    for p in positions {
+        steps += u32::from(p);
     }
-    sum
+    steps
 }
 
 // Refused: the state keeps number and place, and every other number of the record is 0.
-pub fn refused(number: u32, place: u32) -> Paged
-    ensures { (result.session ≡ idle_by (State.Refused number place) 0 0)
-        × (result.answer ≡ plain_answer number place) }
+pub fn refused(reason: Reason, place: u32) -> Answered<ReadAnswer>
+    ensures { (result.session ≡ idle_by (State.Refused (number_of reason) place) 0 0)
+        × (result.answer ≡ plain_answer (number_of reason) place) }
 {
+    let number = reason.number();
     let session = idle(State::Refused(number, place), 0, 0);
     let answer = plain(number, place);
-    Paged { session, answer }
+    Answered { session, answer }
 }
 
-// Refused by a number that wipes the tables: the map's entries become the mark.
-pub fn spoiled(number: u32, dim: usize, darts: usize, stand: Stand, tables: &mut [u16]) -> Paged
+// Refused for a reason that wipes the tables: the map's entries become the mark. N and n go beside the tables here and
+// below, as `steps::join` says.
+pub fn spoiled(
+    reason: Reason,
+    dim: usize,
+    darts: usize,
+    stand: Stand,
+    tables: &mut [u16],
+) -> Answered<ReadAnswer>
     requires { Limits dim darts tables.old }
     ensures { let t = tables.old in left_by result tables.new
-        ≡ leaves (reading.spoiled number (walk_at by_dart dim darts stand t)) t }
+        ≡ leaves (reading.spoiled (number_of reason) (walk_at by_dart dim darts stand t)) t }
 {
-    let positions = stand.positions;
-    let place = steps_of(positions);
+    let place = steps_of(stand.positions);
     tables::blank(tables, (dim + 1) * darts);
-    refused(number, place)
+    refused(reason, place)
 }
 
 // Accepted so far: the record of the walk, and its answer.
-pub fn held(state: State, dim: usize, darts: usize, stand: Stand, waiting: u16, value: u16) -> Paged
+pub fn held(
+    state: State,
+    dim: usize,
+    darts: usize,
+    stand: Stand,
+    waiting: u16,
+    value: u16,
+) -> Answered<ReadAnswer>
     requires { (dim ≤ 6) × (darts ≤ 4096) }
     ensures { (result.session ≡ held_by state dim darts stand waiting value)
         × (result.answer ≡ good_by dim darts stand) }
 {
     let positions = stand.positions;
-    let count = stand.count;
-    let form = stand.form;
-    let bodies = stand.bodies;
     let steps = steps_of(positions);
     let session = Session {
         state,
         dim: dim as u16,
         darts: darts as u16,
-        count,
+        count: stand.count,
         positions,
         waiting,
         value,
-        form,
-        bodies,
+        form: stand.form,
+        bodies: stand.bodies,
     };
     let answer = ReadAnswer {
         number: 0,
@@ -157,33 +167,43 @@ pub fn held(state: State, dim: usize, darts: usize, stand: Stand, waiting: u16, 
         dim: dim as u32,
         darts: darts as u32,
     };
-    Paged { session, answer }
+    Answered { session, answer }
+}
+
+// Is a bit of a byte set, from one after the first on?
+pub fn set_from(byte: u8, bit: u32) -> bool
+    requires { (1 ≤ bit) × (bit < 8) }
+    ensures { not result ≡ eqb (value (drop bit (bits_of 8 byte))) 0 }
+{
+    let rest = 1u8 << (8 - bit);
+    byte % rest != 0
 }
 
 // Is a fill bit set in the rest of the byte where the cursor stands?
-pub fn fill_set(c: Cursor, page: &[u8]) -> bool
-    requires { CursorFits c page.now × (c.waiting ≡ 0) }
-    ensures { let bits = at_hand c page.now in not result ≡ eqb (value (take (length bits % 8) bits)) 0 }
+pub fn fill_set(bits: Bits) -> bool
+    requires { bits.cursor.waiting ≡ 0 }
+    ensures { let left = of at_hand bits.entry in not result ≡ eqb (value (take (length left % 8) left)) 0 }
 {
-    let at = c.at;
-    let bit = c.bit;
+    let at = bits.cursor.at;
+    let bit = bits.cursor.bit;
+    let page = bits.page;
     if page.len() <= at {
         return false;
     }
     if bit == 0 {
         return false;
     }
-    let rest = 1u8 << (8 - bit);
-    page[at] % rest != 0
+    set_from(page[at], bit)
 }
 
 // Is there a byte after the one where the cursor stands?
-pub fn byte_after(c: Cursor, page: &[u8]) -> bool
-    requires { CursorFits c page.now × (c.waiting ≡ 0) }
-    ensures { not result ≡ eqb (length (at_hand c page.now) / 8) 0 }
+pub fn byte_after(bits: Bits) -> bool
+    requires { bits.cursor.waiting ≡ 0 }
+    ensures { not result ≡ eqb (length (of at_hand bits.entry) / 8) 0 }
 {
-    let at = c.at;
-    let bit = c.bit;
+    let at = bits.cursor.at;
+    let bit = bits.cursor.bit;
+    let page = bits.page;
     if page.len() <= at {
         return false;
     }
@@ -203,73 +223,70 @@ pub fn bodies_found(form: Form, bodies: u16, count: u16, darts: usize) -> bool
     }
 }
 
-// The number that refuses a walk's end without them.
-pub fn end_number(form: Form) -> u32
-    ensures { result ≡ end_number form }
+// What refuses a walk's end without them.
+#[tactic(auto, unfolding(rules::specs::Bodies::end_number, rules::specs::Refusals::number_of))]
+pub fn end_reason(form: Form) -> Reason
+    ensures { number_of result ≡ end_number form }
 {
     match form {
-        Form::One => 15,
-        Form::Several => 30,
+        Form::One => Reason::TooFew,
+        Form::Several => Reason::OneBody,
     }
 }
 
-// The walk's end: 15 or 30 by the form, 16, 17, 18, then complete.
+// The walk's end: what refuses it, in the documents' order, then complete.
 pub fn finish(
     dim: usize,
     darts: usize,
     stand: Stand,
-    c: Cursor,
-    page: &[u8],
+    bits: Bits,
     tables: &mut [u16],
-) -> Paged
-    requires { Ends dim darts stand c tables.old page.now }
+) -> Answered<ReadAnswer>
+    requires { Ends dim darts stand bits.cursor tables.old }
     ensures { let t = tables.old in left_by result tables.new
-        ≡ leaves (reading.finish (walk_at by_dart dim darts stand t) (at_hand c page.now)) t }
+        ≡ leaves (reading.finish (walk_at by_dart dim darts stand t) (of at_hand bits.entry)) t }
 {
-    let form = stand.form;
-    if !bodies_found(form, stand.bodies, stand.count, darts) {
-        return spoiled(end_number(form), dim, darts, stand, tables);
+    if !bodies_found(stand.form, stand.bodies, stand.count, darts) {
+        return spoiled(end_reason(stand.form), dim, darts, stand, tables);
     }
-    if tables::first_broken(tables, dim, darts) != darts {
-        return spoiled(16, dim, darts, stand, tables);
+    let map = Map { dim, darts, tables };
+    if map.first_broken().is_some() {
+        return spoiled(Reason::Built, dim, darts, stand, tables);
     }
-    if fill_set(c, page) {
-        return spoiled(17, dim, darts, stand, tables);
+    if fill_set(bits) {
+        return spoiled(Reason::Fill, dim, darts, stand, tables);
     }
-    if byte_after(c, page) {
-        return spoiled(18, dim, darts, stand, tables);
+    if byte_after(bits) {
+        return spoiled(Reason::ByteAfter, dim, darts, stand, tables);
     }
     held(State::Complete, dim, darts, stand, 0, 0)
 }
 
 // Where a run leaves the session.
-pub fn settle(dim: usize, darts: usize, r: Ran, page: &[u8], tables: &mut [u16]) -> Paged
-    requires { Settles dim darts r tables.old page.now }
+pub fn settle(dim: usize, darts: usize, r: Ran, tables: &mut [u16]) -> Answered<ReadAnswer>
+    requires { Settles dim darts r tables.old }
     ensures { let t = tables.old in left_by result tables.new
-        ≡ leaves (reading.settle (told_run dim darts r t page.now)) t }
+        ≡ leaves (reading.settle (told_run dim darts r.entry t)) t }
 {
-    let stand = r.stand;
-    let cursor = r.cursor;
-    let signal = r.signal;
-    match signal {
-        Signal::Refused(number) => spoiled(number, dim, darts, stand, tables),
-        Signal::Ended => finish(dim, darts, stand, cursor, page, tables),
-        Signal::Waits(_) => {
-            let w = cursor.rest(page);
-            held(State::Running, dim, darts, stand, w.bits, w.value)
+    match r.signal {
+        Err(Stop::Refused(reason)) => spoiled(reason, dim, darts, r.stand, tables),
+        Ok(()) => finish(dim, darts, r.stand, r.bits, tables),
+        Err(Stop::Waits(_)) => {
+            let w = r.bits.rest();
+            held(State::Running, dim, darts, r.stand, w.bits, w.value)
         }
     }
 }
 
 // How many bytes to fetch after a run: those of the bits that it waits for.
-pub fn to_fetch(signal: Signal) -> u32
-    requires { (k : ℕ) → signal ≡ Signal.Waits k → k ≤ 16 }
+pub fn to_fetch(signal: Result<(), Stop>) -> u32
+    requires { (k : ℕ) → signal ≡ Err (Stop.Waits k) → k ≤ 16 }
     ensures { result ≡ signal_fetch signal }
 {
     match signal {
-        Signal::Ended => 0,
-        Signal::Waits(bits) => whole_bytes(bits),
-        Signal::Refused(_) => 0,
+        Ok(()) => 0,
+        Err(Stop::Waits(bits)) => whole_bytes(bits),
+        Err(Stop::Refused(_)) => 0,
     }
 }
 
@@ -278,17 +295,14 @@ pub fn go_on(
     dim: usize,
     darts: usize,
     stand: Stand,
-    c: Cursor,
-    page: &[u8],
+    bits: Bits,
     tables: &mut [u16],
-) -> Fetching
-    requires { Ready dim darts stand c tables.old page.now }
+) -> Answered<PageAnswer>
+    requires { Ready dim darts stand bits.cursor tables.old }
     ensures { let t = tables.old in Fetches result tables.new
-        (leaves (reading.settle (run_all (walk_at by_dart dim darts stand t) (at_hand c page.now))) t) }
+        (leaves (reading.settle (run_all (walk_at by_dart dim darts stand t) (of at_hand bits.entry))) t) }
 {
-    let r = runs::run(tables, dim, darts, stand, c, page);
-    let signal = r.signal;
-    let fetch = to_fetch(signal);
-    let left = settle(dim, darts, r, page, tables);
-    asking(left, fetch)
+    let r = runs::run(tables, dim, darts, stand, bits);
+    let fetch = to_fetch(r.signal);
+    settle(dim, darts, r, tables).asking(fetch)
 }

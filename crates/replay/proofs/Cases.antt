@@ -8,6 +8,8 @@ use native.Mathlib.Decide.{dec_lt}
 use lib.ListN.{length}
 use lib.Dec.{eqb, ltb, leb}
 use borrow.Author.Tests.{eqb-false, eq-eqb, ne_eqb, lt-ltb, le-leb, lt-leb, le-ltb}
+use Rattle.std.specs.Prelude.{Option}
+use Rattle.rules.specs.declared.Symbol as rules
 use Rattle.rules.specs.Lists.{scan, first, number}
 use Rattle.rules.specs.Map.{mark, link, Valid}
 use Rattle.rules.specs.Walk.{Walk, Head, head, Partner, partner, pass, join, fresh, tie, Symbol, apply}
@@ -21,11 +23,10 @@ use Rattle.rules.proofs.Names.{name, Names}
 use Rattle.rules.proofs.Known.{lean_known, lean_deduce, lean_partner, lower_link, partner_lean}
 use Rattle.walk.specs.Numbers.{number_in, dart_in}
 use Rattle.walk.proofs.Rooms.{Agrees, nameless}
-use Rattle.replay.specs.declared.Yield.{Yield}
 use Rattle.replay.specs.Replays.{known_in, deducing_rank, writes_by, writes_in, count_after, told}
 
 -- a step of the rules that writes s
-pub record Stepping (m : List ℕ) (w : Walk) (names : List ℕ) (s : Yield) : Type 0 where
+pub record Stepping (m : List ℕ) (w : Walk) (names : List ℕ) (s : Option rules.Symbol) : Type 0 where
   pub walk : Walk
   pub after : List ℕ
   pub step : write_at m w names (head w) ≡ Written.wrote (told s) walk after
@@ -120,7 +121,7 @@ module _ (m : List ℕ) (root : ℕ) (w : Walk) (names work : List ℕ) (v : Inv
         partner_lean m root w names v M A j b turn ∙ rw (K, D, deduce_scan (j - 1) 0 (omega arith), z)
 
     -- what is written, by numbers
-    abbrev pub written : Yield
+    abbrev pub written : Option rules.Symbol
     written = writes_in w.layout w.dim w.darts m work w.count j b
 
     -- whether aj(b) is known, and deduced

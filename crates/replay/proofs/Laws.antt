@@ -1,11 +1,11 @@
 -- What the calls of the replay answered, put together: the tests, and what a step writes one way through the code at a time. Rests on the rules' Lists.
 use Prim.Native.Nat.{ℕ, ◌-◌, ◌≤◌, ◌<◌}
 use mathlib.Core.Path.{◌≡◌}
-use mathlib.Core.Logic.{◌≢◌}
-use mathlib.Core.Bool.{Bool, true, false}
+use mathlib.Core.Bool.{Bool, true, false, not}
 use mathlib.Core.List.{List}
-use lib.Dec.{ltb}
-use borrow.Author.Tests.{eq-eqb, ne_eqb, lt-ltb, le-leb, lt-leb, le-ltb}
+use lib.Dec.{eqb, ltb}
+use borrow.Author.Tests.{not-false, eqb-true, lt-ltb, le-leb, lt-leb, le-ltb}
+use Rattle.std.specs.Prelude.{Some, None}
 use Rattle.rules.specs.declared.Dart.{Dart}
 use Rattle.rules.specs.declared.WalkNo.{WalkNo}
 use Rattle.rules.specs.declared.Symbol.TheVariants.{New, Border, Index}
@@ -14,9 +14,7 @@ use Rattle.rules.specs.Map.{by_dart, link}
 use Rattle.rules.proofs.Lists.{Sought, sought_here, sought_end}
 use Rattle.walk.specs.Numbers.{number_in, dart_in}
 use Rattle.walk.proofs.Laws.{Looked}
-use Rattle.replay.specs.declared.Yield.TheVariants.{Nothing, One}
-use Rattle.replay.specs.declared.Replayed.{Replayed}
-use Rattle.replay.specs.Replays.{known_in, deducing_rank, writes_by, writes_in, count_after, replayed_in}
+use Rattle.replay.specs.Replays.{known_in, deducing_rank, writes_by, writes_in}
 
 -- the tests of the code, each over what its calls answered
 pub known_own : (N n : ℕ) (t work : List ℕ) (j p d x : ℕ) → x ≡ number_in n work d → x < p → true ≡ known_in by_dart N n t work j p d
@@ -29,9 +27,9 @@ unfolding known_in
 known_other N n t work j p d x y z e h e' e'' = rw (← e, le-ltb x p h, ← e', ← e'')
 
 -- where ai(d) is d itself nothing more is known there
-pub unknown_there : (N n : ℕ) (t work : List ℕ) (j p : ℕ) {x y d : ℕ} → x ≡ y → x ≡ d → known_in by_dart N n t work j p d ≡ false
+pub unknown_there : (N n : ℕ) (t work : List ℕ) (j p x y d : ℕ) → x ≡ y → not (eqb x d) ≡ false → known_in by_dart N n t work j p d ≡ false
     → known_in by_dart N n t work j p y ≡ false
-unknown_there N n t work j p e f h = rw (← e, f) h
+unknown_there N n t work j p x y d e f h = rw (← e, eqb-true x d (not-false _ f)) h
 
 pub found_below : {f : ℕ → Bool} {k i : ℕ} → Sought f k i → i < k → f i ≡ true → true ≡ ltb (first f k) k
 found_below {f} {k} {i} s h q = rw (← sought_here s h q, lt-ltb i k h)
@@ -44,7 +42,7 @@ module _ {N n : ℕ} {t work : List ℕ} {j p : ℕ} {d x : Dart} {e : WalkNo} (
   own_number : p ≤ number_in n work d.0
   own_number = rw R.dart own
 
-  pub writes_known : (c : ℕ) → e.0 < p → Nothing ≡ writes_in by_dart N n t work c j p
+  pub writes_known : (c : ℕ) → e.0 < p → None ≡ writes_in by_dart N n t work c j p
   unfolding writes_in writes_by known_in
   writes_known c h = rw (← R.dart, ← R.partner, ← R.number, le-ltb (number_in n work d.0) p own_number, lt-ltb e.0 p h)
 
@@ -53,25 +51,20 @@ module _ {N n : ℕ} {t work : List ℕ} {j p : ℕ} {d x : Dart} {e : WalkNo} (
   writes_unknown h = rw (← R.partner, ← R.number, le-ltb (number_in n work d.0) p own_number, le-ltb e.0 p h)
 
   module _ (c : ℕ) (hk : p ≤ e.0) {l : Bool} (el : l ≡ ltb (deducing_rank by_dart N n t work j p d.0) (j - 1)) where
-    pub writes_deduced : l ≡ true → Nothing ≡ writes_in by_dart N n t work c j p
+    pub writes_deduced : l ≡ true → None ≡ writes_in by_dart N n t work c j p
     unfolding writes_in writes_by
     writes_deduced h = rw (← R.dart, writes_unknown hk, ← el, h)
 
     module _ (hl : l ≡ false) where
-      pub writes_border : x.0 ≡ d.0 → One Border ≡ writes_in by_dart N n t work c j p
+      pub writes_border : eqb x.0 d.0 ≡ true → Some Border ≡ writes_in by_dart N n t work c j p
       unfolding writes_in writes_by
-      writes_border h = rw (← R.dart, writes_unknown hk, ← el, hl, ← R.partner, eq-eqb x.0 d.0 h)
+      writes_border h = rw (← R.dart, writes_unknown hk, ← el, hl, ← R.partner, h)
 
-      module _ (hx : x.0 ≢ d.0) where
-        pub writes_new : c ≤ e.0 → One New ≡ writes_in by_dart N n t work c j p
+      module _ (hx : eqb x.0 d.0 ≡ false) where
+        pub writes_new : c ≤ e.0 → Some New ≡ writes_in by_dart N n t work c j p
         unfolding writes_in writes_by
-        writes_new h = rw (← R.dart, writes_unknown hk, ← el, hl, ← R.partner, ne_eqb x.0 d.0 hx, ← R.number, le-leb c e.0 h)
+        writes_new h = rw (← R.dart, writes_unknown hk, ← el, hl, ← R.partner, hx, ← R.number, le-leb c e.0 h)
 
-        pub writes_index : e.0 < c → One (Index e) ≡ writes_in by_dart N n t work c j p
+        pub writes_index : e.0 < c → Some (Index e) ≡ writes_in by_dart N n t work c j p
         unfolding writes_in writes_by
-        writes_index h = rw (← R.dart, writes_unknown hk, ← el, hl, ← R.partner, ne_eqb x.0 d.0 hx, ← R.number, lt-leb c e.0 h)
-
--- what a step comes to, over what its calls answered
-pub replayed_by : (N n : ℕ) (t work : List ℕ) (c j p : ℕ) (r : Replayed) → r.written ≡ writes_in by_dart N n t work c j p → r.count ≡ count_after r.written c
-    → r ≡ replayed_in by_dart N n t work c j p
-replayed_by N n t work c j p r e f = rw (f, e)
+        writes_index h = rw (← R.dart, writes_unknown hk, ← el, hl, ← R.partner, hx, ← R.number, lt-leb c e.0 h)

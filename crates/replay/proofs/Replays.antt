@@ -10,6 +10,8 @@ use lib.Dec.{leb}
 use borrow.Author.Tests.{leb-false}
 use Rattle.rules.specs.declared.Form.{Form}
 use Rattle.rules.specs.declared.WalkNo.{WalkNo}
+use Rattle.std.specs.Prelude.{Option, Some, None}
+use Rattle.rules.specs.declared.Symbol as rules
 use Rattle.rules.specs.declared.Symbol.TheVariants.{New, Border, Index}
 use Rattle.rules.specs.Map.{by_dart, link, Valid}
 use Rattle.rules.specs.Walk.{Walk, Symbol}
@@ -20,15 +22,13 @@ use Rattle.walk.proofs.Rooms.{Agrees}
 use Rattle.walk.specs.Standing.{ahead}
 use Rattle.walk.proofs.Walking.{Rooted, walking_starts, starts_ahead, due_over, walking_over, walking_begins, kept_turn}
 use Rattle.walk.proofs.Walking.{walking_head, walking_heads, walking_own, walking_on}
-use Rattle.replay.specs.declared.Yield.{Yield}
-use Rattle.replay.specs.declared.Yield.TheVariants.{Nothing, One}
 use Rattle.replay.specs.declared.Replayed.{Replayed}
 use Rattle.replay.specs.Replays.{writes_by, writes_in, count_after, replayed_in, told, AtHead, NumberedFrom, Replaying}
 use Rattle.replay.proofs.Cases.{Stepping, steps_written}
 use Rattle.replay.proofs.Finished.{agrees_now}
 
 -- a walk number that is written is below the count
-index_below_by : (k d a u : Bool) (e c : ℕ) (x : WalkNo) → leb c e ≡ u → writes_by k d a u e ≡ One (Index x) → x.0 < c
+index_below_by : (k d a u : Bool) (e c : ℕ) (x : WalkNo) → leb c e ≡ u → writes_by k d a u e ≡ Some (Index x) → x.0 < c
 unfolding writes_by
 index_below_by true d a u e c x q h = let z : ◌≡◌ {A = ℕ} 0 1 = cc in absurd (omega arith)
 index_below_by false true a u e c x q h = let z : ◌≡◌ {A = ℕ} 0 1 = cc in absurd (omega arith)
@@ -36,18 +36,18 @@ index_below_by false false true u e c x q h = let z : ◌≡◌ {A = ℕ} 0 1 = 
 index_below_by false false false true e c x q h = let z : ◌≡◌ {A = ℕ} 0 1 = cc in absurd (omega arith)
 index_below_by false false false false e c x q h = let z : e ≡ x.0 = cc in omega (arith, leb-false c e q)
 
-pub index_below : (N n : ℕ) (t work : List ℕ) (c j p : ℕ) (x : WalkNo) → writes_in by_dart N n t work c j p ≡ One (Index x) → x.0 < c
+pub index_below : (N n : ℕ) (t work : List ℕ) (c j p : ℕ) (x : WalkNo) → writes_in by_dart N n t work c j p ≡ Some (Index x) → x.0 < c
 unfolding writes_in
 index_below N n t work c j p x h =
     index_below_by _ _ _ (leb c (number_in n work (link by_dart N n t j (dart_in n work p)))) (number_in n work (link by_dart N n t j (dart_in n work p)))
     c x refl h
 
 -- no step takes a number back
-count_grows : (s : Yield) (c : ℕ) → c ≤ count_after s c
-count_grows Nothing c = omega arith
-count_grows (One New) c = omega arith
-count_grows (One Border) c = omega arith
-count_grows (One (Index x)) c = omega arith
+count_grows : (s : Option rules.Symbol) (c : ℕ) → c ≤ count_after s c
+count_grows None c = omega arith
+count_grows (Some New) c = omega arith
+count_grows (Some Border) c = omega arith
+count_grows (Some (Index x)) c = omega arith
 
 pub count_later : (N n : ℕ) (t work : List ℕ) (c j p : ℕ) (r : Replayed) → r ≡ replayed_in by_dart N n t work c j p → c ≤ r.count
 count_later N n t work c j p r e = rw e (count_grows (writes_in by_dart N n t work c j p) c)

@@ -3,81 +3,54 @@
 use Prim.Native.Nat.{ℕ, ◌*◌, ◌≤◌, ◌<◌}
 use mathlib.Core.Path.{◌≡◌, refl, ap, sym, ◌∙◌}
 use mathlib.Core.Logic.{◌≢◌}
-use mathlib.Core.Bool.{Bool, true, false, not, cond}
+use mathlib.Core.Bool.{Bool, true, false, not}
 use mathlib.Core.List.{List}
 use native.Mathlib.Omega.{arith}
 use native.Mathlib.Decide.{ℕ_discrete}
-use lib.ListN.{length, get_or, drop}
+use lib.ListN.{length, get_or, drop, replicate}
 use lib.Dec.{eqb, ltb}
+use Rattle.std.specs.Prelude.{Result, Ok, Err, MatchResult}
 use borrow.Author.Tests.{eq-eqb, ne_eqb}
-use Rattle.rules.specs.declared.CheckAnswer.{CheckAnswer}
+use Rattle.rules.specs.declared.Refusal.{Refusal}
 use Rattle.rules.specs.declared.Form.{Form}
 use Rattle.rules.specs.declared.Form.TheVariants.{One, Several}
 use Rattle.rules.specs.declared.ReportAnswer.{ReportAnswer}
 use Rattle.rules.specs.Lists.{first}
 use Rattle.rules.specs.Map.{by_dart, mark, blank, all_ranks, reaches, Valid, Limits}
 use Rattle.rules.specs.Refusals.{among, of_bodies}
-use Rattle.rules.specs.Check.{Verdict, refuse_if, unreached, bodies_verdict, verdict, work_after, check_answer_of, check_answer, check_work}
+use Rattle.rules.specs.Check.{Verdict, fine, refused, refuse_if, unreached, bodies_verdict, verdict, work_after, check_work}
 use Rattle.rules.specs.Report.{cell_counts, free_pairs, orientable, report_answer_of, report_answer, report_work_after, report_work}
 use Rattle.rules.proofs.Lists.{get_d_any, first_same}
 use Rattle.rules.proofs.Orbits.{Closed, valid_closed, reaches_reached, reached_reaches}
 use Rattle.rules.proofs.Check.{Case, Passes, refused_case, refused_some, fine_passes}
-use Rattle.checker.specs.Parts.{numberless, misfit_of, misbuilt_of}
-use Rattle.checker.proofs.Verdicts.{check_sizes, check_limits, check_tables, check_valid, tabled_on}
-use Rattle.report.specs.declared.Spanning.{Spanning}
-use Rattle.report.specs.Answer.{refusal_of, counted_of, misjoined_of}
+use Rattle.checker.specs.Parts.{and_then, numberless, misfit_of, misbuilt_of}
+use Rattle.checker.proofs.Verdicts.{verdict_sizes, check_sizes, check_limits, verdict_tables, check_tables, check_valid, tabled}
+use Rattle.report.specs.Answer.{counted_of, answer_by}
 use Rattle.report.specs.Spans.{Spanned}
 use Rattle.report.proofs.Spans.{one_reached, reached_one}
 
--- the verdict after the tables by the number that the code finds
-by_number : CheckAnswer → Verdict
-by_number a = refuse_if (not (eqb a.number 0)) a.number a.place Verdict.fine
-
-bodies_by : (F : Form) (n p : ℕ) → bodies_verdict F n p ≡ by_number (misjoined_of F n p)
-unfolding bodies_verdict by_number misjoined_of refuse_if
-bodies_by One n p = go (ltb p n)
-  where
-    go : (b : Bool) → refuse_if b 9 p Verdict.fine ≡ by_number (cond b (record { number = 9; place = p }) (record { number = 0; place = 0 }))
-    go true = refl
-    go false = refl
-bodies_by Several n p = go (ltb p n)
-  where
-    go : (b : Bool) → refuse_if (not b) 30 0 Verdict.fine ≡ by_number (cond b (record { number = 0; place = 0 }) (record { number = 30; place = 0 }))
-    go true = refl
-    go false = refl
-
-by_some : (a : CheckAnswer) → a.number ≢ 0 → by_number a ≡ Verdict.refused a.number a.place
-unfolding by_number refuse_if
-by_some a h = rw (ne_eqb a.number 0 h)
-
-by_none : (a : CheckAnswer) → a.number ≡ 0 → by_number a ≡ Verdict.fine
-unfolding by_number refuse_if
-by_none a h = rw h
+-- a refusal's answer
+abbrev pub refusal : ℕ → ℕ → ReportAnswer
+refusal nr p = record { number = nr; place = p; cells = replicate 7 0; free = 0; orientable = false }
 
 -- a refusal that the check would give too
-refused_as : (F : Form) (N n : ℕ) (t w w' : List ℕ) (nr p : ℕ)
-    → (record { number = nr; place = p } ≡ check_answer F by_dart N n 0 t w) × (w' ≡ check_work F by_dart N n 0 t w)
-    → nr ≢ 0 → (refusal_of nr p ≡ report_answer F by_dart N n t w) × (w' ≡ report_work F by_dart N n t w)
-unfolding check_answer check_answer_of check_work work_after report_answer report_answer_of report_work report_work_after refusal_of
-refused_as F N n t w w' nr p (e, f) h = rw f (go (verdict F by_dart N n 0 t (length w)) e)
-  where
-    go : (v : Verdict) → record { number = nr; place = p } ≡ check_answer_of v
-        → (refusal_of nr p ≡ report_answer_of by_dart N n t v) × (work_after F by_dart N n 0 t w v ≡ report_work_after n w v)
-    go Verdict.fine e = absurd (h (ap (λ (x : CheckAnswer). x.number) e))
-    go (Verdict.refused nr' p') e =
-        (λ i. refusal_of (ap (λ (x : CheckAnswer). x.number) e i) (ap (λ (x : CheckAnswer). x.place) e i), refl)
+refused_as : (F : Form) (N n : ℕ) (t w : List ℕ) {nr p : ℕ}
+    → (refused nr p ≡ verdict F by_dart N n 0 t (length w)) × (w ≡ check_work F by_dart N n 0 t w)
+    → (refusal nr p ≡ report_answer F by_dart N n t w) × (w ≡ report_work F by_dart N n t w)
+unfolding check_work work_after report_work report_work_after report_answer report_answer_of
+refused_as F N n t w (v, f) = (rw (← v), f ∙ rw (← v))
 
 -- the work room is blanked in each case after the tables
 work_left : (F : Form) (n p : ℕ) (w : List ℕ) → report_work_after n w (bodies_verdict F n p) ≡ blank (2 * n) w
 unfolding report_work_after bodies_verdict refuse_if of_bodies among
 work_left One n p w = go (ltb p n)
   where
-    go : (b : Bool) → report_work_after n w (refuse_if b 9 p Verdict.fine) ≡ blank (2 * n) w
+    go : (b : Bool) → report_work_after n w (refuse_if b 9 p fine) ≡ blank (2 * n) w
     go true = refl
     go false = refl
 work_left Several n p w = go (ltb p n)
   where
-    go : (b : Bool) → report_work_after n w (refuse_if (not b) 30 0 Verdict.fine) ≡ blank (2 * n) w
+    go : (b : Bool) → report_work_after n w (refuse_if (not b) 30 0 fine) ≡ blank (2 * n) w
     go true = refl
     go false = refl
 
@@ -100,36 +73,41 @@ pub record Tabled (F : Form) (N n : ℕ) (t w : List ℕ) : Type 0 where
   pub left : verdict F by_dart N n 0 t (length w) ≡ bodies_verdict F n (first (unreached by_dart N n t 0) n)
   pub after : report_work F by_dart N n t w ≡ blank (2 * n) w
 
--- what the code did, step by step: k is what it found of the sizes, a of the tables
-module _ (F : Form) (N n : ℕ) (t w : List ℕ) {k : ℕ} (ek : k ≡ misfit_of N n 0 (length t) (length w)) where
-  pub report_sizes : {r : ReportAnswer} → r ≡ refusal_of k 0 → k ≢ 0 → (r ≡ report_answer F by_dart N n t w) × (w ≡ report_work F by_dart N n t w)
-  report_sizes e h = rw e (refused_as F N n t w w k 0 (check_sizes F N n 0 t w k ek h) h)
+-- what the code did, step by step: the sizes, then the tables
+module _ (F : Form) (N n : ℕ) (t w : List ℕ) where
+  abbrev sizes : Verdict
+  sizes = misfit_of N n 0 (length t) (length w)
 
-  module _ (z : k ≡ 0) where
+  pub report_sizes : {nr p : ℕ} → refused nr p ≡ sizes → (refusal nr p ≡ report_answer F by_dart N n t w) × (w ≡ report_work F by_dart N n t w)
+  report_sizes e = refused_as F N n t w (verdict_sizes F N n 0 t w e, (check_sizes F N n 0 t w e).1)
+
+  module _ (z : sizes ≡ fine) where
     pub report_limits : Limits N n t
-    report_limits = (check_limits F N n 0 t w k ek z).0
+    report_limits = (check_limits F N n 0 t w z).0
 
-    module _ {a : CheckAnswer} (ea : a ≡ misbuilt_of N n t) where
-      pub report_tables : {r : ReportAnswer} → r ≡ refusal_of a.number a.place → a.number ≢ 0
-          → (r ≡ report_answer F by_dart N n t w) × (w ≡ report_work F by_dart N n t w)
-      report_tables e h = rw e (refused_as F N n t w w a.number a.place (check_tables F N n 0 t w k ek z a ea h) h)
+    pub report_tables : {nr p : ℕ} → refused nr p ≡ misbuilt_of N n t
+        → (refusal nr p ≡ report_answer F by_dart N n t w) × (w ≡ report_work F by_dart N n t w)
+    report_tables e = refused_as F N n t w (verdict_tables F N n 0 t w z e, (check_tables F N n 0 t w z e).1)
 
-      pub report_tabled : a.number ≡ 0 → Tabled F N n t w
-      report_tabled y =
-          let (limits, room, some) = check_limits F N n 0 t w k ek z in
-          let v = tabled_on F N n 0 t w k ek z a ea y in
-          record {
-            limits = limits;
-            room = room;
-            some = some;
-            valid = check_valid F N n 0 t w k ek z a ea y;
-            left = v;
-            after = unfold report_work in ap (report_work_after n w) v ∙ work_left F n _ w;
-          }
+    tabled_left : misbuilt_of N n t ≡ fine → verdict F by_dart N n 0 t (length w) ≡ bodies_verdict F n (first (unreached by_dart N n t 0) n)
+    unfolding and_then
+    tabled_left y = tabled F N n 0 t w z ∙ rw y
 
--- u is the work room where what is reached from dart 0 is marked; a is what that comes to by the form
-module _ {F : Form} {N n : ℕ} {s : Spanning} {t w u : List ℕ} (T : Tabled F N n t w) (S : Spanned N n t s u) (one : s.next ≡ 1) {a : CheckAnswer}
-    (ea : a ≡ misjoined_of F n (first (numberless u) n)) where
+    pub report_tabled : misbuilt_of N n t ≡ fine → Tabled F N n t w
+    report_tabled y =
+        let (limits, room, some) = check_limits F N n 0 t w z in
+        let v = tabled_left y in
+        record {
+          limits = limits;
+          room = room;
+          some = some;
+          valid = check_valid F N n 0 t w z y;
+          left = v;
+          after = unfold report_work in ap (report_work_after n w) v ∙ work_left F n _ w;
+        }
+
+-- u is the work room where what is reached from dart 0 is marked
+module _ {F : Form} {N n tail count next : ℕ} {t w u : List ℕ} (T : Tabled F N n t w) (S : Spanned N n t tail count next u) (one : next ≡ 1) where
   found : first (numberless u) n ≡ first (unreached by_dart N n t 0) n
   unfolding unreached
   found = first_same (numberless u) (unreached by_dart N n t 0) n (λ i l. rw (get_d_any u i mark 0 (omega (arith, S.queue.room))) (each i l))
@@ -146,20 +124,28 @@ module _ {F : Form} {N n : ℕ} {s : Spanning} {t w u : List ℕ} (T : Tabled F 
       each : (i : ℕ) → i < n → eqb (get_or u i 0) mark ≡ unreached by_dart N n t 0 i
       each i l = alike i l (ℕ_discrete (get_or u i 0) mark) (reaches by_dart all_ranks N n t 0 i) refl
 
-  joined : verdict F by_dart N n 0 t (length w) ≡ by_number a
-  joined = T.left ∙ (bodies_by F n (first (unreached by_dart N n t 0) n) ∙ ap by_number (sym (ea ∙ ap (misjoined_of F n) found)))
+  abbrev joined : Verdict
+  joined = bodies_verdict F n (first (numberless u) n)
+
+  joined_on : verdict F by_dart N n 0 t (length w) ≡ joined
+  joined_on = T.left ∙ ap (bodies_verdict F n) (sym found)
 
   -- v is the work room before it is blanked, and u' after
   module _ (v : List ℕ) {u' : List ℕ} (eu : u' ≡ blank (2 * n) v) (past : drop (2 * n) v ≡ drop (2 * n) w) where
     -- 9, or 30
-    pub report_misjoined : {r : ReportAnswer} → r ≡ refusal_of a.number a.place → a.number ≢ 0
-        → (r ≡ report_answer F by_dart N n t w) × (u' ≡ report_work F by_dart N n t w)
-    unfolding report_answer report_answer_of refusal_of
-    report_misjoined e h = (rw (joined ∙ by_some a h) e, blank_over (2 * n) w v u' eu past ∙ sym T.after)
+    pub report_misjoined : {nr p : ℕ} → refused nr p ≡ joined → (refusal nr p ≡ report_answer F by_dart N n t w) × (u' ≡ report_work F by_dart N n t w)
+    unfolding report_answer report_answer_of
+    report_misjoined h = (rw (joined_on ∙ sym h), blank_over (2 * n) w v u' eu past ∙ sym T.after)
 
-    pub report_counted : {r : ReportAnswer} → r ≡ counted_of N n t → a.number ≡ 0 → (r ≡ report_answer F by_dart N n t w) × (u' ≡ report_work F by_dart N n t w)
+    pub report_counted : joined ≡ fine → {a : ReportAnswer} → a ≡ counted_of N n t
+        → (a ≡ report_answer F by_dart N n t w) × (u' ≡ report_work F by_dart N n t w)
     unfolding report_answer report_answer_of counted_of
-    report_counted e h = (rw (joined ∙ by_none a h) e, blank_over (2 * n) w v u' eu past ∙ sym T.after)
+    report_counted h e = (rw (joined_on ∙ h, e), blank_over (2 * n) w v u' eu past ∙ sym T.after)
+
+-- what takes a result's answer, or makes that of its refusal, takes the answer that the result makes
+pub answer_taken : {a : ReportAnswer} (o : Result ReportAnswer (Refusal ℕ)) → MatchResult o (λ x. a ≡ x) (λ r. a ≡ answer_by (Err r)) → a ≡ answer_by o
+answer_taken (Ok x) e = e
+answer_taken (Err r) e = e
 
 -- a report with number 0 is of a map that passes every test
 pub reported : (F : Form) (N n : ℕ) (t w : List ℕ) (a : ReportAnswer) → a ≡ report_answer F by_dart N n t w → a.number ≡ 0 → Passes F by_dart N n 0 t (length w)
@@ -167,8 +153,8 @@ unfolding report_answer report_answer_of
 reported F N n t w a ea h = go (verdict F by_dart N n 0 t (length w)) refl (sym (ap (λ (x : ReportAnswer). x.number) ea) ∙ h)
   where
     go : (v : Verdict) → verdict F by_dart N n 0 t (length w) ≡ v → (report_answer_of by_dart N n t v).number ≡ 0 → Passes F by_dart N n 0 t (length w)
-    go Verdict.fine e z = fine_passes F by_dart N n 0 t (length w) e
-    go (Verdict.refused nr p) e z = absurd (refused_some F by_dart N n 0 t (length w) nr p e z)
+    go fine e z = fine_passes F by_dart N n 0 t (length w) e
+    go (refused nr p) e z = absurd (refused_some F by_dart N n 0 t (length w) nr p e z)
 
 -- the report takes root 0, which is a dart wherever n is within the limits: it never gives 5
 rootless_case : {F : Form} {N n room nr p : ℕ} {t : List ℕ} → Case F by_dart N n 0 t room nr p → nr ≡ 5 → n ≤ 0
@@ -188,7 +174,7 @@ unfolding report_answer report_answer_of
 report_rooted F N n t w = go (verdict F by_dart N n 0 t (length w)) refl
   where
     go : (v : Verdict) → verdict F by_dart N n 0 t (length w) ≡ v → (report_answer_of by_dart N n t v).number ≢ 5
-    go Verdict.fine e z = absurd (omega arith)
-    go (Verdict.refused nr p) e z =
+    go fine e z = absurd (omega arith)
+    go (refused nr p) e z =
         let (c, none) = refused_case F by_dart N n 0 t (length w) nr p e in
         none 2 0 (omega arith) (Case.darts (λ h. omega (arith, rootless_case c z, h.0)))

@@ -19,7 +19,6 @@ use Rattle.rules.proofs.Cells.{Orientable, orientable_sound, orientable_complete
 use Rattle.flood.specs.Flood.{Linked}
 use Rattle.flood.proofs.Queues.{full_marked}
 use Rattle.flood.proofs.Floods.{linked_two, linked_reached}
-use Rattle.report.specs.declared.Spanning.{Spanning}
 use Rattle.report.specs.Spans.{Rooted, Spanned}
 use Rattle.report.specs.Tests.{alike, is_free}
 
@@ -78,8 +77,8 @@ one_root {N} {n} {d = d} {e = e} {i = i} {t = t} v h R S hi z = omega (arith, R.
     there = reached_trans across (reached_sym C hs (linked_reached S.linked))
 
 -- every dart has a class
-module _ {N n : ℕ} {s : Spanning} {t w : List ℕ} (v : Valid by_dart N n t) (h1 : 1 ≤ n) (S : Spanned N n t s w) (full : n ≤ s.tail) where
-  rooted_all : (d : ℕ) → d < n → Rooted N n t s.next d (get_or w d 0)
+module _ {N n tail count next : ℕ} {t w : List ℕ} (v : Valid by_dart N n t) (h1 : 1 ≤ n) (S : Spanned N n t tail count next w) (full : n ≤ tail) where
+  rooted_all : (d : ℕ) → d < n → Rooted N n t next d (get_or w d 0)
   rooted_all d h = S.rooted d h (full_marked S.queue full d h)
 
   class_two : (d : ℕ) → d < n → get_or w d 0 < 2

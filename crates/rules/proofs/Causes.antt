@@ -9,12 +9,13 @@ use native.Mathlib.Omega.{arith}
 use native.Mathlib.Decide.{dec_lt}
 use lib.Dec.{eqb, ltb, leb}
 use borrow.Author.Tests.{leb-true, leb-false, eqb-true, eqb-false, le-leb, lt-leb, le-ltb, lt-ltb, eq-eqb, ne_eqb, not-true}
-use Rattle.rules.specs.declared.Naming.{Naming}
-use Rattle.rules.specs.declared.Naming.TheVariants.{Allowed, Unnumbered, Itself, Linked}
+use Rattle.std.specs.Prelude.{Result, Ok, Err}
+use Rattle.rules.specs.declared.Cause.{Cause}
+use Rattle.rules.specs.declared.Cause.TheVariants.{Unnumbered, Itself, Linked}
 use Rattle.rules.specs.declared.Form.TheVariants.{One}
 use Rattle.rules.specs.Map.{mark}
 use Rattle.rules.specs.Walk.{Walk, Head, head, link_of, unknown, Partner, partner, tie, resume, Symbol, apply}
-use Rattle.rules.specs.Naming.{naming, naming_number}
+use Rattle.rules.specs.Naming.{naming, cause_number, naming_number}
 use Rattle.rules.specs.Refusals.{among, of_index}
 use Rattle.rules.specs.Stream.{Taken, take_symbol}
 use Rattle.rules.specs.Reading.{Run, Step, permitted, fault, allow, step_taken, step_with, step_at, resuming, step, onward, run}
@@ -25,18 +26,18 @@ use Rattle.rules.proofs.Walks.{unknown_true, unknown_false, next_of}
 use Rattle.rules.proofs.Moves.{Named, named_index, index_named, see_asked, allow_goes, resuming_goes, resuming_stops, step_move, move_form, one_step}
 
 -- what each says of a w that names e at the head b of Lj
-unfoldable pub Says : Naming → Walk → ℕ → ℕ → ℕ → Type 0
-Says Allowed w j b e = Named w j b e
-Says Unnumbered w j b e = w.count ≤ e
-Says Itself w j b e = e ≡ b
-Says Linked w j b e = link_of w j e ≢ mark
+unfoldable pub Says : Result (Unit {0}) Cause → Walk → ℕ → ℕ → ℕ → Type 0
+Says (Ok u) w j b e = Named w j b e
+Says (Err Unnumbered) w j b e = w.count ≤ e
+Says (Err Itself) w j b e = e ≡ b
+Says (Err Linked) w j b e = link_of w j e ≢ mark
 
 -- what is told is so, in any walk
 pub naming_says : (w : Walk) (j b e : ℕ) → Says (naming w j b e) w j b e
 unfolding naming Says
 naming_says w j b e = go (leb w.count e) (eqb e b) (unknown w j e) refl refl refl
   where
-    go : (x y z : Bool) → leb w.count e ≡ x → eqb e b ≡ y → unknown w j e ≡ z → Says (cond x Unnumbered (cond y Itself (cond z Allowed Linked))) w j b e
+    go : (x y z : Bool) → leb w.count e ≡ x → eqb e b ≡ y → unknown w j e ≡ z → Says (cond x (Err Unnumbered) (cond y (Err Itself) (cond z (Ok tt) (Err Linked)))) w j b e
     go true y z p q r = leb-true w.count e p
     go false true z p q r = eqb-true e b q
     go false false true p q r = record { below = leb-false w.count e p; differs = eqb-false e b q; open' = unknown_true w j e r }
@@ -59,26 +60,26 @@ module _ (w : Walk) (v : Inv w) (j b : ℕ) (h : head w ≡ Head.at j b) (a : pa
   linked_other k q = k (rw q (see_asked w j b a))
 
   -- and what is so is told
-  pub says_naming : (c : Naming) → Says c w j b e → naming w j b e ≡ c
+  pub says_naming : (c : Result (Unit {0}) Cause) → Says c w j b e → naming w j b e ≡ c
   unfolding naming Says unknown
-  says_naming Allowed s =
+  says_naming (Ok tt) s =
       rw (lt-leb w.count e s.below, ne_eqb e b s.differs, eq-eqb (link_of w j e) mark s.open')
-  says_naming Unnumbered s = rw (le-leb w.count e s)
-  says_naming Itself s = rw (lt-leb w.count e (omega (arith, head_numbered)), eq-eqb e b s)
-  says_naming Linked s =
+  says_naming (Err Unnumbered) s = rw (le-leb w.count e s)
+  says_naming (Err Itself) s = rw (lt-leb w.count e (omega (arith, head_numbered)), eq-eqb e b s)
+  says_naming (Err Linked) s =
       rw (lt-leb w.count e (linked_numbered s), ne_eqb e b (linked_other s), ne_eqb (link_of w j e) mark s)
 
   -- so no two are so at once
-  pub one_cause : (c d : Naming) → Says c w j b e → Says d w j b e → c ≡ d
+  pub one_cause : (c d : Result (Unit {0}) Cause) → Says c w j b e → Says d w j b e → c ≡ d
   one_cause c d s t = sym (says_naming c s) ∙ says_naming d t
 
 -- one of the three refuses a w exactly where it is not permitted, in any walk
 pub three_causes : (w : Walk) (j b e : ℕ) → of_index (fault w j b (Symbol.index e)) ≡ not (permitted w j b (Symbol.index e))
-unfolding fault naming naming_number of_index among permitted
+unfolding fault naming cause_number naming_number of_index among permitted
 three_causes w j b e = go (dec_lt e w.count) (eqb e b) (unknown w j e)
   where
     go : Dec (e < w.count) → (y z : Bool)
-        → of_index (naming_number (cond (leb w.count e) Unnumbered (cond y Itself (cond z Allowed Linked)))) ≡ not (ltb e w.count && not y && z)
+        → of_index (naming_number (cond (leb w.count e) (Err Unnumbered) (cond y (Err Itself) (cond z (Ok tt) (Err Linked))))) ≡ not (ltb e w.count && not y && z)
     go (yes l) true z = rw (lt-leb w.count e l, lt-ltb e w.count l)
     go (yes l) false true = rw (lt-leb w.count e l, lt-ltb e w.count l)
     go (yes l) false false = rw (lt-leb w.count e l, lt-ltb e w.count l)
@@ -118,23 +119,23 @@ pub record Told (w : Walk) (bs : List Bool) (j b e : ℕ) (rest : List Bool) : T
 -- document 02's sentence, for every step that asks for a symbol and finds a w
 module _ (w : Walk) (v : Inv w) (bs : List Bool) (j b e : ℕ) (rest : List Bool) where
   pub told_apart : head w ≡ Head.at j b → partner w j b ≡ Partner.asked → take_symbol bs ≡ Taken.symbol (Symbol.index e) rest → Told w bs j b e rest
-  unfolding naming_number of_index among Says resuming
+  unfolding cause_number naming_number of_index among Says resuming
   told_apart h a q = record {
-    unnumbered = (from 21, λ s. to Unnumbered s refl);
-    itself = (from 22, λ s. to Itself s refl);
-    linked = (from 23, λ s. to Linked s refl);
+    unnumbered = (from 21, λ s. to (Err Unnumbered) s refl);
+    itself = (from 22, λ s. to (Err Itself) s refl);
+    linked = (from 23, λ s. to (Err Linked) s refl);
     allowed = (made, makes);
   }
     where
       -- the cause of each number
-      cause_of : ℕ → Naming
-      cause_of nr = cond (eqb nr 21) Unnumbered (cond (eqb nr 22) Itself (cond (eqb nr 23) Linked Allowed))
+      told_by : ℕ → Result (Unit {0}) Cause
+      told_by nr = cond (eqb nr 21) (Err Unnumbered) (cond (eqb nr 22) (Err Itself) (cond (eqb nr 23) (Err Linked) (Ok tt)))
 
-      cause_number : (c : Naming) → cause_of (naming_number c) ≡ c
-      cause_number Allowed = refl
-      cause_number Unnumbered = refl
-      cause_number Itself = refl
-      cause_number Linked = refl
+      told_number : (c : Result (Unit {0}) Cause) → told_by (naming_number c) ≡ c
+      told_number (Ok tt) = refl
+      told_number (Err Unnumbered) = refl
+      told_number (Err Itself) = refl
+      told_number (Err Linked) = refl
 
       may : Bool
       may = permitted w j b (Symbol.index e)
@@ -145,16 +146,16 @@ module _ (w : Walk) (v : Inv w) (bs : List Bool) (j b e : ℕ) (rest : List Bool
       step_is : step w bs ≡ resuming (allow may (naming_number (naming w j b e)) w after rest)
       step_is = unfold step step_at step_with step_taken in rw (h, a, q, fault_of)
 
-      from : (nr : ℕ) → step w bs ≡ refused_by nr w → Says (cause_of nr) w j b e
+      from : (nr : ℕ) → step w bs ≡ refused_by nr w → Says (told_by nr) w j b e
       from nr s =
           let f = allow_number may (naming_number (naming w j b e)) nr w after rest (resuming_stops _ _ (sym step_is ∙ s)) in
-          subst (λ c. Says c w j b e) (sym (cause_number (naming w j b e)) ∙ ap cause_of f) (naming_says w j b e)
+          subst (λ c. Says c w j b e) (sym (told_number (naming w j b e)) ∙ ap told_by f) (naming_says w j b e)
 
-      to : (c : Naming) → Says c w j b e → of_index (naming_number c) ≡ true → step w bs ≡ refused_by (naming_number c) w
+      to : (c : Result (Unit {0}) Cause) → Says c w j b e → of_index (naming_number c) ≡ true → step w bs ≡ refused_by (naming_number c) w
       to c s i =
           let f : naming w j b e ≡ c = says_naming w v j b h a e c s in
           let p : may ≡ false = not-true may (sym (three_causes w j b e) ∙ ap of_index (fault_of w j b e ∙ ap naming_number f) ∙ i) in
-          step_is ∙ ap resuming (allow_no p (naming_number (naming w j b e)) w after rest) ∙ ap (λ (x : Naming). refused_by (naming_number x) w) f
+          step_is ∙ ap resuming (allow_no p (naming_number (naming w j b e)) w after rest) ∙ ap (λ (x : Result (Unit {0}) Cause). refused_by (naming_number x) w) f
 
       made : step w bs ≡ Step.goes (resume after) rest → Named w j b e
       made s =

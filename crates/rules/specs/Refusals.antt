@@ -1,5 +1,36 @@
 -- Sets of refusal numbers that the documents speak of together. Each is said here and nowhere else; what is proved of a set goes by its name.
 use Rattle.std.specs.Prelude.{ℕ, Bool, false, ◌&&◌, ◌||◌, List, [], ◌∷◌, eqb}
+use Rattle.rules.specs.declared.Reason.{Reason}
+
+-- the number of each refusal that a call can find
+unfoldable pub number_of : Reason → ℕ
+number_of Reason.Dimension = 1
+number_of Reason.Darts = 2
+number_of Reason.ShortTables = 3
+number_of Reason.ShortWork = 4
+number_of Reason.Root = 5
+number_of Reason.Entry = 6
+number_of Reason.Inverse = 7
+number_of Reason.Manifold = 8
+number_of Reason.NotReached = 9
+number_of Reason.PastEnd = 10
+number_of Reason.Cut = 11
+number_of Reason.TooMany = 13
+number_of Reason.Taken = 14
+number_of Reason.TooFew = 15
+number_of Reason.Built = 16
+number_of Reason.Fill = 17
+number_of Reason.ByteAfter = 18
+number_of Reason.Unfit = 19
+number_of Reason.Closed = 20
+number_of Reason.NotNumbered = 21
+number_of Reason.Itself = 22
+number_of Reason.Linked = 23
+number_of Reason.Word = 26
+number_of Reason.Vertex = 27
+number_of Reason.Face = 28
+number_of Reason.Side = 29
+number_of Reason.OneBody = 30
 
 -- one of the numbers listed
 unfoldable pub among : List ℕ → ℕ → Bool

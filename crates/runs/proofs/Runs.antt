@@ -9,6 +9,7 @@ use native.Mathlib.Omega.{arith}
 use lib.ListN.{length, get_or}
 use lib.Dec.{ltb}
 use borrow.Author.Tests.{ltb-false}
+use Rattle.std.specs.Prelude.{Result, Ok, Err}
 use Rattle.rules.specs.declared.Form.{Form}
 use Rattle.rules.specs.declared.Form.TheVariants.{One}
 use Rattle.rules.specs.Lists.{sum}
@@ -24,16 +25,16 @@ use Rattle.rules.proofs.Lowest.{emptied_none, emptied_next, head_lowest, head_pa
 use Rattle.rules.proofs.Bodies.{headed_rests, due_past, past_says, one_rests, rested, begun, resume_inv, resume_steps, resume_rests}
 use Rattle.rules.proofs.Moves.{Moved, moved, step_move, one_step}
 use Rattle.rules.proofs.Runs.{total, moved_total, steps_total, fuel, Stopped, stopped}
-use Rattle.symbols.specs.declared.Cursor.{Cursor}
+use Rattle.symbols.specs.declared.bits.Bits.{Bits}
 use Rattle.symbols.specs.Cursors.{at_hand}
+use Rattle.symbols.specs.Bits.{of}
 use Rattle.steps.specs.Steps.{stand_in, stand}
 use Rattle.steps.proofs.Steps.{stands}
 use Rattle.runs.specs.declared.Turned.{Turned}
-use Rattle.runs.specs.declared.Turned.TheVariants as turned
 use Rattle.runs.specs.declared.Search.{Search}
 use Rattle.runs.specs.declared.Ran.{Ran}
-use Rattle.runs.specs.declared.Signal.{Signal}
-use Rattle.runs.specs.declared.Signal.TheVariants.{Ended, Waits, Refused}
+use Rattle.runs.specs.declared.Stop.{Stop}
+use Rattle.runs.specs.declared.Stop.TheVariants.{Waits, Refused}
 use Rattle.runs.specs.Turns.{Ready, told_turn, Again, Turns}
 use Rattle.runs.specs.Runs.{search_at, past_of, signal_run, Runs}
 use Rattle.runs.proofs.Turns.{inv_in, ready_one}
@@ -44,20 +45,22 @@ walk_in N n F a ps t = walk_at by_dart N n (stand_in F a.bodies a.count ps) t
 
 -- where a run stands that began at s0, c0 and t0: a turn may be made, with one body as well as with those begun; what is left is told with the body begun that
 -- is due; and past N none is
-pub record RunGoing (N n : ℕ) (s0 : Stand) (c0 : Cursor) (t0 page : List ℕ) (a : Search) (ps : List ℕ) (c : Cursor) (t : List ℕ) : Type 0 where
-  pub ready : Ready N n (stand a.count ps) c t page
+pub record RunGoing (N n : ℕ) (s0 : Stand) (c0 : Bits) (t0 : List ℕ) (a : Search) (ps : List ℕ) (c : Bits) (t : List ℕ) : Type 0 where
+  pub ready : Ready N n (stand a.count ps) c.cursor t
+  pub page : c.page.now ≡ c0.page.now
   pub inv : Inv (walk_in N n s0.form a ps t)
-  pub left : run_all (walk_at by_dart N n s0 t0) (at_hand c0 page) ≡ run_all (resume (walk_in N n s0.form a ps t)) (at_hand c page)
+  pub left : run_all (walk_at by_dart N n s0 t0) (of at_hand c0) ≡ run_all (resume (walk_in N n s0.form a ps t)) (of at_hand c)
   pub lower : Emptied a.count ps a.rank
   pub rests : N < a.rank → due (walk_in N n s0.form a ps t) ≡ false
   pub same : length t ≡ length t0
 
-pub going_start : (F : Form) (B N n k : ℕ) (ps : List ℕ) (c : Cursor) (t page : List ℕ) → Ready N n (stand_in F B k ps) c t page
-    → RunGoing N n (stand_in F B k ps) c t page (search_at 0 k B) ps c t
-going_start F B N n k ps c t page y = record {
-  ready = ready_one F B N n k ps c t page y;
+pub going_start : (F : Form) (B N n k : ℕ) (ps : List ℕ) (c : Bits) (t : List ℕ) → Ready N n (stand_in F B k ps) c.cursor t
+    → RunGoing N n (stand_in F B k ps) c t (search_at 0 k B) ps c t
+going_start F B N n k ps c t y = record {
+  ready = ready_one F B N n k ps c.cursor t y;
+  page = refl;
   inv = y.inv;
-  left = ap (λ (w : Walk). run_all w (at_hand c page)) (sym (rested (walk_at by_dart N n (stand_in F B k ps) t) y.rests));
+  left = ap (λ (w : Walk). run_all w (of at_hand c)) (sym (rested (walk_at by_dart N n (stand_in F B k ps) t) y.rests));
   lower = emptied_none k ps;
   rests = λ h. absurd (omega arith);
   same = refl;
@@ -79,34 +82,34 @@ stopped_walk (Stopped.ended h) = refl
 stopped_walk Stopped.waits = refl
 stopped_walk (Stopped.refused nr i) = refl
 
-signal_walk : (g : Signal) (w : Walk) (bs : List Bool) → run_walk (signal_run g w bs) ≡ w
+signal_walk : (g : Result (Unit {0}) Stop) (w : Walk) (bs : List Bool) → run_walk (signal_run g w bs) ≡ w
 unfolding run_walk signal_run
-signal_walk Ended w bs = refl
-signal_walk (Waits m) w bs = refl
-signal_walk (Refused nr) w bs = refl
+signal_walk (Ok u) w bs = refl
+signal_walk (Err (Waits m)) w bs = refl
+signal_walk (Err (Refused r)) w bs = refl
 
--- signals by number
-abbrev signal_no : Signal → ℕ
-signal_no Ended = 0
-signal_no (Waits m) = 1
-signal_no (Refused nr) = 2
+-- how a run ends, by number
+abbrev signal_no : Result (Unit {0}) Stop → ℕ
+signal_no (Ok u) = 0
+signal_no (Err (Waits m)) = 1
+signal_no (Err (Refused r)) = 2
 
--- the bits that a signal waits for
-abbrev bits_of_signal : Signal → ℕ
-bits_of_signal Ended = 0
-bits_of_signal (Waits m) = m
-bits_of_signal (Refused nr) = 0
+-- the bits that a run waits for
+abbrev bits_of_signal : Result (Unit {0}) Stop → ℕ
+bits_of_signal (Ok u) = 0
+bits_of_signal (Err (Waits m)) = m
+bits_of_signal (Err (Refused r)) = 0
 
-apart : {A : Type 0} (x y : Signal) → signal_no x ≢ signal_no y → x ≡ y → A
+apart : {A : Type 0} (x y : Result (Unit {0}) Stop) → signal_no x ≢ signal_no y → x ≡ y → A
 apart x y h e = absurd (h (ap signal_no e))
 
 -- a run leaves off here
-abbrev ran : Form → Search → List ℕ → Cursor → Signal → Ran
-ran F a ps c g = record { stand = stand_in F a.bodies a.count ps; cursor = c; signal = g }
+abbrev ran : Form → Search → List ℕ → Bits → Result (Unit {0}) Stop → Ran
+ran F a ps c g = record { stand = stand_in F a.bodies a.count ps; bits = c; signal = g }
 
 -- where a run stands that has come to a search
-module _ {N n : ℕ} {s0 : Stand} {c0 : Cursor} {t0 page : List ℕ} {a : Search} {ps : List ℕ} {c : Cursor} {t : List ℕ}
-    (g : RunGoing N n s0 c0 t0 page a ps c t) where
+module _ {N n : ℕ} {s0 : Stand} {c0 : Bits} {t0 : List ℕ} {a : Search} {ps : List ℕ} {c : Bits} {t : List ℕ}
+    (g : RunGoing N n s0 c0 t0 a ps c t) where
   -- the walk here
   abbrev here : Walk
   here = walk_in N n s0.form a ps t
@@ -117,10 +120,10 @@ module _ {N n : ℕ} {s0 : Stand} {c0 : Cursor} {t0 page : List ℕ} {a : Search
   going_few = g.inv.bodies.few
 
   -- where no queue has a head no bit waits
-  no_bits : {j : ℕ} → Emptied a.count ps j → N < j → c.waiting ≡ 0
+  no_bits : {j : ℕ} → Emptied a.count ps j → N < j → c.cursor.waiting ≡ 0
   no_bits {j} low h = go g.ready.begun
     where
-      go : (c.waiting ≡ 0) ⊎ Asks (walk_at by_dart N n (stand a.count ps) t) (bits_of c.waiting c.value) → c.waiting ≡ 0
+      go : (c.cursor.waiting ≡ 0) ⊎ Asks (walk_at by_dart N n (stand a.count ps) t) (bits_of c.cursor.waiting c.cursor.value) → c.cursor.waiting ≡ 0
       go (inl q) = q
       go (inr x) =
           let w = walk_at by_dart N n (stand a.count ps) t in
@@ -129,27 +132,27 @@ module _ {N n : ℕ} {s0 : Stand} {c0 : Cursor} {t0 page : List ℕ} {a : Search
           let z : ◌≡◌ {A = ℕ} 0 1 = cc in absurd (omega arith)
 
   -- the rules' step stops the run
-  stop : (x : Signal) (ps' t' : List ℕ) → due here ≡ false
-      → step here (at_hand c page) ≡ Step.stops (signal_run x (walk_in N n s0.form a ps' t') (at_hand c page))
-      → (x ≡ Ended → c.waiting ≡ 0) → (x ≡ Ended → several s0.form ≡ true → a.count ≡ n)
-      → ((m : ℕ) → x ≡ Waits m → take_symbol (at_hand c page) ≡ Taken.short m) → Runs N n s0 c0 t0 page (ran s0.form a ps' c x) t'
+  stop : (x : Result (Unit {0}) Stop) (ps' t' : List ℕ) → due here ≡ false
+      → step here (of at_hand c) ≡ Step.stops (signal_run x (walk_in N n s0.form a ps' t') (of at_hand c))
+      → (x ≡ Ok tt → c.cursor.waiting ≡ 0) → (x ≡ Ok tt → several s0.form ≡ true → a.count ≡ n)
+      → ((m : ℕ) → x ≡ Err (Waits m) → take_symbol (of at_hand c) ≡ Taken.short m) → Runs N n s0 c0 t0 (ran s0.form a ps' c x) t'
   stop x ps' t' d e z w b =
-      record { tells = sym (g.left ∙ last); fits = g.ready.fits; inv = rw same g.inv; form = refl; clean = z; whole = w; short = b }
+      record { tells = sym (g.left ∙ last); page = g.page; inv = rw same g.inv; form = refl; clean = z; whole = w; short = b }
     where
       same : walk_in N n s0.form a ps' t' ≡ here
       same =
-          sym (signal_walk x (walk_in N n s0.form a ps' t') (at_hand c page))
-          ∙ stopped_walk (stopped here (at_hand c page) (signal_run x (walk_in N n s0.form a ps' t') (at_hand c page)) e)
+          sym (signal_walk x (walk_in N n s0.form a ps' t') (of at_hand c))
+          ∙ stopped_walk (stopped here (of at_hand c) (signal_run x (walk_in N n s0.form a ps' t') (of at_hand c)) e)
 
-      last : run_all (resume here) (at_hand c page) ≡ signal_run x (walk_in N n s0.form a ps' t') (at_hand c page)
+      last : run_all (resume here) (of at_hand c) ≡ signal_run x (walk_in N n s0.form a ps' t') (of at_hand c)
       last = rw (rested here d) (unfold run_all run onward enough in rw e)
 
   -- all queues are empty, and no body is due: in the several form no dart is left
-  pub run_ended : N < a.rank → Runs N n s0 c0 t0 page (ran s0.form a ps c Ended) t
+  pub run_ended : N < a.rank → Runs N n s0 c0 t0 (ran s0.form a ps c (Ok tt)) t
   unfolding signal_run step resuming step_at
   run_ended h =
-      stop Ended ps t (g.rests h) (rw none) (λ _. no_bits g.lower h) (λ _ s. all s (ltb a.count n) refl)
-      (λ m z. apart Ended (Waits m) (omega arith) z)
+      stop (Ok tt) ps t (g.rests h) (rw none) (λ _. no_bits g.lower h) (λ _ s. all s (ltb a.count n) refl)
+      (λ m z. apart (Ok tt) (Err (Waits m)) (omega arith) z)
     where
       none : head here ≡ Head.none
       none = unfold walk_at in head_past here g.inv.shape a.rank g.lower h
@@ -188,7 +191,7 @@ module _ {N n : ℕ} {s0 : Stand} {c0 : Cursor} {t0 page : List ℕ} {a : Search
           rw (begun here is_due) (unfold one_more fresh walk_at in
           stands N n s' t (one_more (fresh here)) s refl refl refl (omega arith) refl refl refl (omega arith))
 
-      going_begun : RunGoing N n s0 c0 t0 page begun_at ps c t
+      going_begun : RunGoing N n s0 c0 t0 begun_at ps c t
       going_begun =
           let w = walk_in N n s0.form begun_at ps t in
           let v : Inv w = rw walk_begun (resume_inv here g.inv) in
@@ -198,19 +201,20 @@ module _ {N n : ℕ} {s0 : Stand} {c0 : Cursor} {t0 page : List ℕ} {a : Search
               inv = inv_in s0.form One (a.bodies + 1) 1 N n (a.count + 1) ps t v (omega arith) (omega arith) (λ o. refl);
               rests = one_rests (walk_at by_dart N n (stand (a.count + 1) ps) t) (unfold walk_at in refl);
               dims = g.ready.dims;
-              fits = g.ready.fits;
               begun = inl (no_bits next past_last);
             };
+            page = g.page;
             inv = v;
-            left = g.left ∙ ap (λ (x : Walk). run_all x (at_hand c page)) (sym walk_begun ∙ sym (rested w r));
+            left = g.left ∙ ap (λ (x : Walk). run_all x (of at_hand c)) (sym walk_begun ∙ sym (rested w r));
             lower = emptied_none (a.count + 1) ps;
             rests = λ h. absurd (omega arith);
             same = g.same;
           }
 
-    going_next : body_due s0.form N n (a.rank + 1) a.count ≡ false → RunGoing N n s0 c0 t0 page (search_at (a.rank + 1) a.count a.bodies) ps c t
+    going_next : body_due s0.form N n (a.rank + 1) a.count ≡ false → RunGoing N n s0 c0 t0 (search_at (a.rank + 1) a.count a.bodies) ps c t
     going_next d = record {
       ready = g.ready;
+      page = g.page;
       inv = g.inv;
       left = g.left;
       lower = next;
@@ -220,12 +224,12 @@ module _ {N n : ℕ} {s0 : Stand} {c0 : Cursor} {t0 page : List ℕ} {a : Search
 
     -- the search goes on past the rank
     module _ {r : Search} (e : r ≡ past_of s0.form N n a) where
-      pub going_past : RunGoing N n s0 c0 t0 page r ps c t
+      pub going_past : RunGoing N n s0 c0 t0 r ps c t
       unfolding past_of
       going_past = rw e (go (body_due s0.form N n (a.rank + 1) a.count) refl)
         where
           go : (x : Bool) → body_due s0.form N n (a.rank + 1) a.count ≡ x
-              → RunGoing N n s0 c0 t0 page (cond x (search_at 0 (a.count + 1) (a.bodies + 1)) (search_at (a.rank + 1) a.count a.bodies)) ps c t
+              → RunGoing N n s0 c0 t0 (cond x (search_at 0 (a.count + 1) (a.bodies + 1)) (search_at (a.rank + 1) a.count a.bodies)) ps c t
           go true d = going_begun d
           go false d = going_next d
 
@@ -252,33 +256,45 @@ module _ {N n : ℕ} {s0 : Stand} {c0 : Cursor} {t0 page : List ℕ} {a : Search
         headed_rests here a.rank (get_or ps a.rank 0) (unfold walk_at in head_lowest here g.inv.shape a.rank g.lower ranked some)
 
   -- a turn was made there
-  module _ (ranked : a.rank ≤ N) (some : get_or ps a.rank 0 < a.count) {r : Turned} {ps' t' : List ℕ} (x : Turns N n a.count ps c t page r ps' t') where
-    pub run_waits : (m : ℕ) → r ≡ turned.Waits m → Runs N n s0 c0 t0 page (ran s0.form a ps' c (Waits m)) t'
+  module _ (ranked : a.rank ≤ N) (some : get_or ps a.rank 0 < a.count) {r : Result Turned Stop} {ps' t' : List ℕ} (x : Turns N n a.count ps c t r ps' t') where
+    pub run_stops : (y : Stop) → r ≡ Err y → Runs N n s0 c0 t0 (ran s0.form a ps' c (Err y)) t'
     unfolding told_turn signal_run Again step resuming
-    run_waits m q =
-        stop (Waits m) ps' t' (turn_rests ranked some) (rw (← (rw q at (x.tells s0.form a.bodies)))) (λ z. apart (Waits m) Ended (omega arith) z)
-        (λ z. apart (Waits m) Ended (omega arith) z)
+    run_stops (Waits m) q =
+        let y = Err (Waits m) in
+        stop y ps' t' (turn_rests ranked some) (rw (← (rw q at (x.tells s0.form a.bodies)))) (λ z. apart y (Ok tt) (omega arith) z)
+        (λ z. apart y (Ok tt) (omega arith) z)
         (λ i z. (rw q at x.again) ∙ ap Taken.short (ap bits_of_signal z))
+    run_stops (Refused e) q =
+        let y = Err (Refused e) in
+        stop y ps' t' (turn_rests ranked some) (rw (← (rw q at (x.tells s0.form a.bodies)))) (λ z. apart y (Ok tt) (omega arith) z)
+        (λ z. apart y (Ok tt) (omega arith) z)
+        (λ m z. apart y (Err (Waits m)) (omega arith) z)
 
-    pub run_refused : (nr : ℕ) → r ≡ turned.Refused nr → Runs N n s0 c0 t0 page (ran s0.form a ps' c (Refused nr)) t'
-    unfolding told_turn signal_run step resuming
-    run_refused nr q =
-        stop (Refused nr) ps' t' (turn_rests ranked some) (rw (← (rw q at (x.tells s0.form a.bodies)))) (λ z. apart (Refused nr) Ended (omega arith) z)
-        (λ z. apart (Refused nr) Ended (omega arith) z)
-        (λ m z. apart (Refused nr) (Waits m) (omega arith) z)
+    pub run_waits : (m : ℕ) → r ≡ Err (Waits m) → Runs N n s0 c0 t0 (ran s0.form a ps' c (Err (Waits m))) t'
+    run_waits m = run_stops (Waits m)
 
-    module _ {rank k' : ℕ} {d : Cursor} (m : r ≡ turned.On rank k' d) where
+    module _ {y : Turned} (m : r ≡ Ok y) where
+      -- where it goes on
+      abbrev rank : ℕ
+      rank = y.next.rank
+
+      abbrev k' : ℕ
+      k' = y.next.count
+
+      abbrev d : Bits
+      d = y.bits
+
       -- the walk after it, with no body begun
       abbrev there : Walk
       there = walk_at by_dart N n (stand_in s0.form a.bodies k' ps') t'
 
-      again : Ready N n (stand k' ps') d t' page × Emptied k' ps' rank × (rank ≤ N)
+      again : (d.page.now ≡ c.page.now) × Ready N n (stand k' ps') d.cursor t' × Emptied k' ps' rank × (rank ≤ N)
       unfolding Again
       again = rw m at x.again
 
       told : (F : Form) (B : ℕ) →
           let w = walk_at by_dart N n (stand_in F B a.count ps) t in
-          step_at w (at_hand c page) (head w) ≡ Step.goes (walk_at by_dart N n (stand_in F B k' ps') t') (at_hand d page)
+          step_at w (of at_hand c) (head w) ≡ Step.goes (walk_at by_dart N n (stand_in F B k' ps') t') (of at_hand d)
       unfolding told_turn
       told F B = sym ((rw m at x.tells) F B)
 
@@ -288,22 +304,22 @@ module _ {N n : ℕ} {s0 : Stand} {c0 : Cursor} {t0 page : List ℕ} {a : Search
       grows =
           let w = walk_at by_dart N n (stand a.count ps) t in
           let w' = walk_at by_dart N n (stand k' ps') t' in
-          let y = step_move w (at_hand c page) w' (at_hand d page) (one_step w (at_hand c page) refl ∙ told One 1) in
+          let y = step_move w (of at_hand c) w' (of at_hand d) (one_step w (of at_hand c) refl ∙ told One 1) in
           (moved w w' y.out g.ready.inv y.move).grows.count
 
       inv_there : Inv there
       inv_there =
           let b = g.inv.bodies in
-          inv_in One s0.form 1 a.bodies N n k' ps' t' again.0.inv (unfold walk_at in b.some) (unfold walk_at in omega (arith, b.few, grows))
+          inv_in One s0.form 1 a.bodies N n k' ps' t' again.1.inv (unfold walk_at in b.some) (unfold walk_at in omega (arith, b.few, grows))
           (unfold walk_at in b.one)
 
-      goes : step here (at_hand c page) ≡ Step.goes (resume there) (at_hand d page)
+      goes : step here (of at_hand c) ≡ Step.goes (resume there) (of at_hand d)
       unfolding step resuming
       goes = rw (told s0.form a.bodies)
 
       moves : Moved here (resume there)
       moves =
-          let y = step_move here (at_hand c page) (resume there) (at_hand d page) goes in
+          let y = step_move here (of at_hand c) (resume there) (of at_hand d) goes in
           moved here (resume there) y.out g.inv y.move
 
       more_steps : (sum ps' ≡ suc (sum ps)) × (sum ps' ≤ size N n)
@@ -313,7 +329,7 @@ module _ {N n : ℕ} {s0 : Stand} {c0 : Cursor} {t0 page : List ℕ} {a : Search
       pub going_less : passes_left N n (search_at rank k' a.bodies) ps' < passes_left N n a ps
       going_less = let q = more_steps in let l = grows in omega arith
 
-      more_left : run_all (resume here) (at_hand c page) ≡ run_all (resume there) (at_hand d page)
+      more_left : run_all (resume here) (of at_hand c) ≡ run_all (resume there) (of at_hand d)
       unfolding run_all run onward enough walk_at
       more_left =
           let q = more_steps in
@@ -321,14 +337,15 @@ module _ {N n : ℕ} {s0 : Stand} {c0 : Cursor} {t0 page : List ℕ} {a : Search
           let u = moved_total here (resume there) moves.grows in
           let w = resume there in
           rw (rested here (turn_rests ranked some), goes)
-          (fuel (size N n) (enough w.dim w.darts) w (at_hand d page) moves.inv (unfold steps total in omega arith) (unfold steps total in omega arith))
+          (fuel (size N n) (enough w.dim w.darts) w (of at_hand d) moves.inv (unfold steps total in omega arith) (unfold steps total in omega arith))
 
-      pub going_more : length t' ≡ length t → RunGoing N n s0 c0 t0 page (search_at rank k' a.bodies) ps' d t'
+      pub going_more : length t' ≡ length t → RunGoing N n s0 c0 t0 (search_at rank k' a.bodies) ps' d t'
       going_more l = record {
-        ready = again.0;
+        ready = again.1;
+        page = again.0 ∙ g.page;
         inv = inv_there;
         left = g.left ∙ more_left;
-        lower = again.1;
-        rests = λ h. absurd (omega (arith, again.2));
+        lower = again.2;
+        rests = λ h. absurd (omega (arith, again.3));
         same = l ∙ g.same;
       }

@@ -6,28 +6,43 @@ ghost use Rattle.std.specs.Prelude.{◌≡◌, ◌≤◌};
 ghost use Rattle.rules.specs.Inner.{Lowest};
 ghost use Rattle.rules.specs.Walk.{Partner};
 ghost use Rattle.steps.specs.Steps.{stand_in, stand, HeadCase};
-ghost use Rattle.runs.specs.Turns.{after_step, Ready, Turns};
+ghost use Rattle.runs.specs.Turns.{Ready, Turns};
+ghost use Rattle.runs.specs.declared.Stop.TheVariants as Stop;
 ghost use Rattle.runs.specs.Runs.{search_at, past_of, ran_at, Runs};
 
-use rules::{Form, Stand, WalkNo};
-use steps::{Case, Stepped};
-use symbols::{Cursor, Taken};
+use rules::{Form, Reason, Stand, WalkNo};
+use steps::{Case, Next};
+use symbols::{Bits, Short};
+use tables::Map;
 
-// What a turn comes to: it goes on, with a rank below which all queues are empty, the count and the cursor, or it
-// waits for so many bits more at least, or it is refused by a number.
+// How a walk goes on after a turn, and with which bits.
 #[derive(Clone, Copy)]
-pub enum Turned {
-    On(usize, u16, Cursor),
-    Waits(u32),
-    Refused(u32),
+pub struct Turned<'a> {
+    pub next: Next,
+    pub bits: Bits<'a>,
 }
 
-// How a run ends: at the walk's end, waiting for so many bits more at least, or refused by a number.
+// Why a walk goes no further: it waits for so many bits more at least, or it is refused.
 #[derive(Clone, Copy)]
-pub enum Signal {
-    Ended,
+pub enum Stop {
     Waits(u32),
-    Refused(u32),
+    Refused(Reason),
+}
+
+impl From<Short> for Stop {
+    ghost from_gives = { λ short stop. stop ≡ Stop.Waits short.0 };
+
+    fn from(short: Short) -> Stop {
+        Stop::Waits(u32::from(short.0))
+    }
+}
+
+impl From<Reason> for Stop {
+    ghost from_gives = { λ reason stop. stop ≡ Stop.Refused reason };
+
+    fn from(reason: Reason) -> Stop {
+        Stop::Refused(reason)
+    }
 }
 
 // Where the search for the lowest queue that isn't empty stands: at a rank below which all queues are empty, with the
@@ -39,21 +54,22 @@ pub struct Search {
     pub bodies: u16,
 }
 
-// Where a run leaves the count, the bodies and the bits, beside the positions, which are lent.
+// Where a run leaves the count, the bodies and the bits, beside the positions, which are lent; and how it ended: at the
+// walk's end, or stopped before it.
 #[derive(Clone, Copy)]
-pub struct Halted {
+pub struct Halted<'a> {
     pub count: u16,
     pub bodies: u16,
-    pub cursor: Cursor,
-    pub signal: Signal,
+    pub bits: Bits<'a>,
+    pub signal: Result<(), Stop>,
 }
 
 // Where a run leaves the walk and the bits.
 #[derive(Clone, Copy)]
-pub struct Ran {
+pub struct Ran<'a> {
     pub stand: Stand,
-    pub cursor: Cursor,
-    pub signal: Signal,
+    pub bits: Bits<'a>,
+    pub signal: Result<(), Stop>,
 }
 
 // A search at a rank.
@@ -81,154 +97,137 @@ pub fn past(form: Form, dim: usize, darts: usize, at: Search) -> Search
 }
 
 // A run that leaves off here.
-pub fn halt(at: Search, cursor: Cursor, signal: Signal) -> Halted
-    ensures { result ≡ record { count = at.count; bodies = at.bodies; cursor = cursor; signal = signal } }
+pub fn halt<'a>(at: Search, bits: Bits<'a>, signal: Result<(), Stop>) -> Halted<'a>
+    ensures { result ≡ record { count = at.count; bodies = at.bodies; bits = bits.entry; signal = signal } }
 {
     Halted {
         count: at.count,
         bodies: at.bodies,
-        cursor,
+        bits,
         signal,
     }
 }
 
-// A turn whose step was made with the bits from c on left.
-pub fn after(step: Stepped, c: Cursor) -> Turned
-    ensures { result ≡ after_step step c }
-{
-    match step {
-        Stepped::On(rank, count) => Turned::On(rank, count, c),
-        Stepped::Refused(number) => Turned::Refused(number),
-    }
-}
-
-// The turn at the head b of Lj where a symbol is asked.
-pub fn asked(
+// The turn at the head b of Lj where a symbol is asked. N and n go beside the tables here and below, as `steps::join`
+// says.
+pub fn asked<'a>(
     tables: &mut [u16],
-    positions: &mut [u16],
+    positions: &mut [u16; 7],
     dim: usize,
     darts: usize,
     count: u16,
     j: usize,
     b: WalkNo,
-    c: Cursor,
-    page: &[u8],
-) -> Turned
-    requires { Ready dim darts (stand count positions.old) c tables.old page.now
+    bits: Bits<'a>,
+) -> Result<Turned<'a>, Stop>
+    requires { Ready dim darts (stand count positions.old) bits.cursor tables.old
         × HeadCase dim darts count positions.old tables.old j b.0 Partner.asked }
-    ensures { Turns dim darts count positions.old c tables.old page.now result
+    ensures { Turns dim darts count positions.old bits.entry tables.old result
         positions.new tables.new }
 {
-    match c.take_symbol(page) {
-        Taken::Short(bits) => Turned::Waits(bits as u32),
-        Taken::Symbol(s, d) => after(
-            steps::by_symbol(tables, positions, dim, darts, count, j, b, s),
-            d,
-        ),
-    }
+    let taken = bits.take_symbol()?;
+    let left = Bits {
+        cursor: taken.cursor,
+        page: bits.page,
+    };
+    let next = steps::by_symbol(tables, positions, dim, darts, count, j, b, taken.symbol)?;
+    Ok(Turned { next, bits: left })
 }
 
 // One turn with the bits at hand, at the head of Lj.
-pub fn turn(
+pub fn turn<'a>(
     tables: &mut [u16],
-    positions: &mut [u16],
+    positions: &mut [u16; 7],
     dim: usize,
     darts: usize,
     count: u16,
     j: usize,
-    c: Cursor,
-    page: &[u8],
-) -> Turned
-    requires { Ready dim darts (stand count positions.old) c tables.old page.now
+    bits: Bits<'a>,
+) -> Result<Turned<'a>, Stop>
+    requires { Ready dim darts (stand count positions.old) bits.cursor tables.old
         × Lowest dim count positions.old j }
-    ensures { Turns dim darts count positions.old c tables.old page.now result
+    ensures { Turns dim darts count positions.old bits.entry tables.old result
         positions.new tables.new }
 {
     let b = WalkNo(positions[j]);
-    match steps::partner(tables, dim, darts, j, b) {
+    let map = Map { dim, darts, tables };
+    match steps::partner(&map, j, b) {
         Case::Known => {
             steps::passed(positions, j, b);
-            Turned::On(j, count, c)
+            let next = Next { rank: j, count };
+            Ok(Turned { next, bits })
         }
-        Case::Deduced(e) => after(
-            steps::by_deduction(tables, positions, dim, darts, count, j, b, e),
-            c,
-        ),
-        Case::Asked => asked(tables, positions, dim, darts, count, j, b, c, page),
+        Case::Deduced(e) => {
+            let next = steps::by_deduction(tables, positions, dim, darts, count, j, b, e)?;
+            Ok(Turned { next, bits })
+        }
+        Case::Asked => asked(tables, positions, dim, darts, count, j, b, bits),
     }
 }
 
 // Every step that needs no bit beyond those at hand; each writes one place of the positions. With the queues below Lj
 // empty, Lj holds the walk numbers from its position up to the count; past LN the next body has begun, or the walk has
-// ended.
-pub fn walk_on(
+// ended. The search for the lowest queue is that of `walk::number_body`, which says why it is no shared loop.
+pub fn walk_on<'a>(
     tables: &mut [u16],
-    positions: &mut [u16],
+    positions: &mut [u16; 7],
     form: Form,
     bodies: u16,
     dim: usize,
     darts: usize,
     count: u16,
-    c: Cursor,
-    page: &[u8],
-) -> Halted
-    requires { Ready dim darts (stand_in form bodies count positions.old) c tables.old page.now }
-    ensures { Runs dim darts (stand_in form bodies count positions.old) c tables.old
-        page.now (ran_at form result positions.new) tables.new }
+    start: Bits<'a>,
+) -> Halted<'a>
+    requires { Ready dim darts (stand_in form bodies count positions.old) start.cursor tables.old }
+    ensures { Runs dim darts (stand_in form bodies count positions.old) start.entry tables.old
+        (ran_at form result positions.new) tables.new }
 {
     let mut at = search_at(0, count, bodies);
-    let mut cursor = c;
+    let mut bits = start;
     while at.rank <= dim {
         let rank = at.rank;
         if at.count <= positions[rank] {
             at = past(form, dim, darts, at);
         } else {
-            match turn(tables, positions, dim, darts, at.count, rank, cursor, page) {
-                Turned::On(next, k, d) => {
-                    at = search_at(next, k, at.bodies);
-                    cursor = d;
+            match turn(tables, positions, dim, darts, at.count, rank, bits) {
+                Ok(t) => {
+                    at = search_at(t.next.rank, t.next.count, at.bodies);
+                    bits = t.bits;
                 }
-                Turned::Waits(bits) => {
-                    return halt(at, cursor, Signal::Waits(bits));
-                }
-                Turned::Refused(number) => {
-                    return halt(at, cursor, Signal::Refused(number));
+                Err(stop) => {
+                    return halt(at, bits, Err(stop));
                 }
             }
         }
     }
-    halt(at, cursor, Signal::Ended)
+    halt(at, bits, Ok(()))
 }
 
 // The same from a stand: its positions are lent, so that no step copies them.
-pub fn run(tables: &mut [u16], dim: usize, darts: usize, s: Stand, c: Cursor, page: &[u8]) -> Ran
-    requires { Ready dim darts s c tables.old page.now }
-    ensures { Runs dim darts s c tables.old page.now result tables.new }
+pub fn run<'a>(tables: &mut [u16], dim: usize, darts: usize, s: Stand, bits: Bits<'a>) -> Ran<'a>
+    requires { Ready dim darts s bits.cursor tables.old }
+    ensures { Runs dim darts s bits.entry tables.old result tables.new }
 {
     let mut positions = s.positions;
-    let form = s.form;
     let t = walk_on(
         tables,
         &mut positions,
-        form,
+        s.form,
         s.bodies,
         dim,
         darts,
         s.count,
-        c,
-        page,
+        bits,
     );
     let stand = Stand {
         count: t.count,
         positions,
-        form,
+        form: s.form,
         bodies: t.bodies,
     };
-    let cursor = t.cursor;
-    let signal = t.signal;
     Ran {
         stand,
-        cursor,
-        signal,
+        bits: t.bits,
+        signal: t.signal,
     }
 }

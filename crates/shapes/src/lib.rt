@@ -3,9 +3,12 @@
 #![tactic(auto)]
 
 ghost use Rattle.std.specs.Prelude.{◌≡◌};
+ghost use Rattle.rules.specs.Refusals.{number_of};
 ghost use Rattle.shapes.specs.Faces.{refusal};
 
-// The answer of a face file: n is 0 on a refusal. A text may be longer than 32 bits can say, and its place with it.
+use rules::Refusal;
+
+// The answer of a face file, in numbers as C takes it: n is 0 on a refusal. A text may be longer than 32 bits can say, and its place with it.
 #[derive(Clone, Copy)]
 pub struct FacesAnswer {
     pub number: u32,
@@ -13,13 +16,15 @@ pub struct FacesAnswer {
     pub darts: u32,
 }
 
-// A refusal.
-pub fn refused(number: u32, place: u64) -> FacesAnswer
-    ensures { result ≡ refusal number place }
-{
-    FacesAnswer {
-        number: number,
-        place: place,
-        darts: 0,
+impl From<Refusal<u64>> for FacesAnswer {
+    ghost from_gives = { λ r a. a ≡ refusal (number_of r.reason) r.place };
+
+    #[tactic(auto, unfolding(crate::specs::Faces::refusal))]
+    fn from(r: Refusal<u64>) -> FacesAnswer {
+        FacesAnswer {
+            number: r.reason.number(),
+            place: r.place,
+            darts: 0,
+        }
     }
 }

@@ -8,8 +8,7 @@ use native.Mathlib.Decide.{ℕ_discrete}
 use lib.ListN.{length, get_or, set}
 use lib.Seq.{get_or-set_same, get_or-set_other}
 use borrow.Author.Tests.{lt-ltb, le-ltb}
-use Rattle.sides.specs.declared.Spot.{Spot}
-use Rattle.sides.specs.declared.Spot.TheVariants.{Found, Free}
+use Rattle.std.specs.Prelude.{Result, Ok, Err}
 use Rattle.sides.specs.Sides.{kid, owner_of, Grown, Path, free, found, onward}
 
 -- the places of a corner's kids
@@ -41,22 +40,19 @@ grown_more tree m n g h l = record { few = l; below = λ at. omega (arith, g.bel
 pub record Seeking (tree keys : List ℕ) (key rest at : ℕ) : Type 0 where
   pub grown : Grown tree 2048
   pub low : at < 12288
-  pub on : (r : Spot) → Path tree keys key rest at r → Path tree keys key key (key % 4093) r
+  pub on : (r : Result ℕ ℕ) → Path tree keys key rest at r → Path tree keys key key (key % 4093) r
 
 module _ (tree keys : List ℕ) (key : ℕ) where
-  pub seeking_start : Grown tree 2048 → Seeking tree keys key key (key % 4093)
-  seeking_start g = record { grown = g; low = omega arith; on = λ r p. p }
-
   module _ {rest at : ℕ} (s : Seeking tree keys key rest at) where
-    pub seeking_free : get_or tree at 0 ≡ 0 → Path tree keys key key (key % 4093) (Free at)
-    seeking_free e = s.on (Free at) (free e)
+    pub seeking_free : get_or tree at 0 ≡ 0 → Path tree keys key key (key % 4093) (Err at)
+    seeking_free e = s.on (Err at) (free e)
 
     module _ (h : get_or tree at 0 ≢ 0) where
       pub seeking_low : get_or tree at 0 - 1 < 2048
       seeking_low = omega (arith, s.grown.below at)
 
-      pub seeking_found : get_or keys (get_or tree at 0 - 1) 0 ≡ key → Path tree keys key key (key % 4093) (Found (get_or tree at 0 - 1))
-      seeking_found e = s.on (Found (get_or tree at 0 - 1)) (found (get_or tree at 0 - 1) (hold (get_or tree at 0) h) e)
+      pub seeking_found : get_or keys (get_or tree at 0 - 1) 0 ≡ key → Path tree keys key key (key % 4093) (Ok (get_or tree at 0 - 1))
+      seeking_found e = s.on (Ok (get_or tree at 0 - 1)) (found (get_or tree at 0 - 1) (hold (get_or tree at 0) h) e)
 
       pub seeking_less : 2048 - owner_of (kid (get_or tree at 0 - 1) rest) < 2048 - owner_of at
       seeking_less =
@@ -72,7 +68,7 @@ module _ (tree keys : List ℕ) (key : ℕ) where
       }
 
   -- a search has one end
-  pub path_one : {rest at : ℕ} {r s : Spot} → Path tree keys key rest at r → Path tree keys key rest at s → r ≡ s
+  pub path_one : {rest at : ℕ} {r s : Result ℕ ℕ} → Path tree keys key rest at r → Path tree keys key rest at s → r ≡ s
   path_one (free e) (free f) = refl
   path_one (free e) (found k f g) = absurd (omega arith)
   path_one (free e) (onward k f g q) = absurd (omega arith)
@@ -83,35 +79,32 @@ module _ (tree keys : List ℕ) (key : ℕ) where
   path_one (onward k f g p) (found l e h) = let z : k ≡ l = omega arith in absurd (g (rw (← z) at h))
   path_one (onward k f g p) (onward l e h q) = let z : l ≡ k = omega arith in path_one p (rw z at q)
 
-  pub path_at : {rest at : ℕ} {r s : Spot} → Path tree keys key rest at r → r ≡ s → Path tree keys key rest at s
-  path_at p e = rw e at p
-
   -- what it ends at
-  pub found_key : {rest at k : ℕ} → Path tree keys key rest at (Found k) → get_or keys k 0 ≡ key
+  pub found_key : {rest at k : ℕ} → Path tree keys key rest at (Ok k) → get_or keys k 0 ≡ key
   found_key (found k f g) = g
   found_key (onward k f g p) = found_key p
 
-  pub found_low : (n : ℕ) → Grown tree n → {rest at k : ℕ} → Path tree keys key rest at (Found k) → k < n
+  pub found_low : (n : ℕ) → Grown tree n → {rest at k : ℕ} → Path tree keys key rest at (Ok k) → k < n
   found_low n g {at = at} (found k f e) = omega (arith, g.below at)
   found_low n g (onward k f e p) = found_low n g p
 
-  pub free_none : {rest at r : ℕ} → Path tree keys key rest at (Free r) → get_or tree r 0 ≡ 0
+  pub free_none : {rest at r : ℕ} → Path tree keys key rest at (Err r) → get_or tree r 0 ≡ 0
   free_none (free e) = e
   free_none (onward k f g p) = free_none p
 
-  free_below : (n : ℕ) → Grown tree n → {rest at r : ℕ} → at < 12288 → owner_of at ≤ n → Path tree keys key rest at (Free r) → (r < 12288) × (owner_of r ≤ n)
+  free_below : (n : ℕ) → Grown tree n → {rest at r : ℕ} → at < 12288 → owner_of at ≤ n → Path tree keys key rest at (Err r) → (r < 12288) × (owner_of r ≤ n)
   free_below n g h o (free e) = (h, o)
   free_below n g {rest = rest} {at = at} h o (onward k f e p) =
       let b = g.below at in
       let w = g.few in
       free_below n g (kid_low k rest (omega arith)) (omega (arith, owner_kid k rest)) p
 
-  pub free_low : (n : ℕ) → Grown tree n → {r : ℕ} → Path tree keys key key (key % 4093) (Free r) → (r < 12288) × (owner_of r ≤ n)
+  pub free_low : (n : ℕ) → Grown tree n → {r : ℕ} → Path tree keys key key (key % 4093) (Err r) → (r < 12288) × (owner_of r ≤ n)
   free_low n g p = free_below n g (omega arith) (omega (arith, owner_low (key % 4093) (omega arith))) p
 
 -- a found search stays found where every place that holds a corner keeps it, with its key
 pub path_kept : (tree keys tree' keys' : List ℕ) → ((x k : ℕ) → get_or tree x 0 ≡ suc k → (get_or tree' x 0 ≡ suc k) × (get_or keys' k 0 ≡ get_or keys k 0))
-    → (q : ℕ) {rest x y : ℕ} → Path tree keys q rest x (Found y) → Path tree' keys' q rest x (Found y)
+    → (q : ℕ) {rest x y : ℕ} → Path tree keys q rest x (Ok y) → Path tree' keys' q rest x (Ok y)
 path_kept tree keys tree' keys' h q {x = x} (found k f e) = found k (h x k f).0 ((h x k f).1 ∙ e)
 path_kept tree keys tree' keys' h q {x = x} (onward k f e p) =
     onward k (h x k f).0 (λ z. e (sym (h x k f).1 ∙ z)) (path_kept tree keys tree' keys' h q p)
@@ -131,7 +124,7 @@ module _ (tree keys : List ℕ) (i key at : ℕ) (g : Grown tree i) (few : i < 2
     get_or-set_other keys i k key 0 (λ q. omega (arith, g.below x)),
   )
 
-  pub path_new : {rest x : ℕ} → Path tree keys key rest x (Free at) → Path (set tree at (i + 1)) (set keys i key) key rest x (Found i)
+  pub path_new : {rest x : ℕ} → Path tree keys key rest x (Err at) → Path (set tree at (i + 1)) (set keys i key) key rest x (Ok i)
   path_new (free e) = found i tree_new (get_or-set_same keys i key 0 (omega arith))
   path_new {x = x} (onward k f e p) = onward k (held x k f).0 (λ z. e (sym (held x k f).1 ∙ z)) (path_new p)
 

@@ -12,7 +12,7 @@ use lib.Dec.{eqb}
 use borrow.Author.Tests.{eqb-true, eqb-false, not-true, not-false}
 use Rattle.rules.specs.Lists.{first}
 use Rattle.rules.proofs.Lists.{first_passes, first_before}
-use Rattle.sides.specs.declared.Spot.TheVariants.{Found, Free}
+use Rattle.std.specs.Prelude.{Ok, Err}
 use Rattle.sides.specs.Sides.{owner_of, Path, Twin, alone, paired, Swept, Third, Enters, Meets}
 use Rattle.sides.proofs.Paths.{path_one, found_key, found_low, free_none, free_low, grown_more, path_kept, held, path_new, grown_new}
 use Rattle.sides.proofs.Ways.{sown_key, sown_new}
@@ -37,29 +37,29 @@ twin_other kf j y v n (paired z w h i a p q) = paired z w h (omega arith) a p q
 
 module _ {tree keys twins : List ℕ} {kf : ℕ → ℕ} {m j : ℕ} (w : Swept tree keys twins kf m j) {key : ℕ} where
   -- the first corner with a key leads
-  leads_first : (y : ℕ) → y < m → kf y ≡ key → (k : ℕ) × Path tree keys key key (key % 4093) (Found k)
+  leads_first : (y : ℕ) → y < m → kf y ≡ key → (k : ℕ) × Path tree keys key key (key % 4093) (Ok k)
   leads_first y h e = go (dec_lt (first f y) y)
     where
       f : ℕ → Bool
       f z = eqb (kf z) (kf y)
 
-      at : (k : ℕ) → kf k ≡ kf y → Path tree keys (kf k) (kf k) (kf k % 4093) (Found k) → (k : ℕ) × Path tree keys key key (key % 4093) (Found k)
+      at : (k : ℕ) → kf k ≡ kf y → Path tree keys (kf k) (kf k) (kf k % 4093) (Ok k) → (k : ℕ) × Path tree keys key key (key % 4093) (Ok k)
       at k q p = (k, rw (q ∙ e) at p)
 
-      go : Dec (first f y < y) → (k : ℕ) × Path tree keys key key (key % 4093) (Found k)
+      go : Dec (first f y < y) → (k : ℕ) × Path tree keys key key (key % 4093) (Ok k)
       go (yes l) =
           let q = eqb-true (kf (first f y)) (kf y) (first_passes f y l) in
           at (first f y) q (w.leads (first f y) (omega arith) (λ z i x. eqb-false (kf z) (kf y) (first_before f y z i) (x ∙ q)))
       go (no l) = at y refl (w.leads y h (λ z i x. eqb-false (kf z) (kf y) (first_before f y z (omega arith)) x))
 
   -- a search that ends at a free place: no corner of the table has the key
-  swept_free : {at : ℕ} → Path tree keys key key (key % 4093) (Free at) → (y : ℕ) → y < m → kf y ≢ key
+  swept_free : {at : ℕ} → Path tree keys key key (key % 4093) (Err at) → (y : ℕ) → y < m → kf y ≢ key
   swept_free {at} p y h e = let (k, q) = leads_first y h e in apart (path_one tree keys key p q)
     where
-      apart : {k : ℕ} → Free at ≡ Found k → ⊥
+      apart : {k : ℕ} → Err at ≡ Ok k → ⊥
       apart {k} z = let o : ◌≡◌ {A = ℕ} 0 1 = cc in omega arith
 
-  swept_found : {k : ℕ} → Path tree keys key key (key % 4093) (Found k) → (k < m) × (kf k ≡ key)
+  swept_found : {k : ℕ} → Path tree keys key key (key % 4093) (Ok k) → (k < m) × (kf k ≡ key)
   swept_found {k} p = let h = found_low tree keys key m w.grown p in (h, sym (w.keyed k h) ∙ found_key tree keys key p)
 
   module _ (ek : kf j ≡ key) where
@@ -111,7 +111,7 @@ module _ (tree keys twins : List ℕ) (i key : ℕ) (few : i < 2048) where
     keyed_next y h (yes e) = rw e (get_or-set_same keys i key 0 (omega (arith, w.keys2048)) ∙ sym ek)
     keyed_next y h (no e) = get_or-set_other keys i y key 0 e ∙ w.keyed y (omega arith)
 
-    module _ (at : ℕ) (p : Path tree keys key key (key % 4093) (Free at)) where
+    module _ (at : ℕ) (p : Path tree keys key key (key % 4093) (Err at)) where
       enter_free : Swept (set tree at (i + 1)) (set keys i key) (set twins i 65535) kf (i + 1) (i + 1)
       enter_free = record {
         met = omega arith;
@@ -136,7 +136,7 @@ module _ (tree keys twins : List ℕ) (i key : ℕ) (few : i < 2048) where
           lacks y h = swept_free w p y h
 
           leads : (y : ℕ) → y < i + 1 → ((z : ℕ) → z < y → kf z ≢ kf y) → Dec (y ≡ i)
-              → Path (set tree at (i + 1)) (set keys i key) (kf y) (kf y) (kf y % 4093) (Found y)
+              → Path (set tree at (i + 1)) (set keys i key) (kf y) (kf y) (kf y % 4093) (Ok y)
           leads y h f (yes e) = rw (e, ek) (path_new tree keys i key at w.grown few none low.0 low.1 w.tree12288 w.keys2048 p)
           leads y h f (no e) =
               path_kept tree keys (set tree at (i + 1)) (set keys i key)
@@ -165,7 +165,7 @@ module _ (tree keys twins : List ℕ) (i key : ℕ) (few : i < 2048) where
         clear = λ x a b h ha la lb. clear_only w ek k hk kk al x a b h (omega arith) la lb;
       }
         where
-          leads : (y : ℕ) → y < i + 1 → ((z : ℕ) → z < y → kf z ≢ kf y) → Dec (y ≡ i) → Path tree (set keys i key) (kf y) (kf y) (kf y % 4093) (Found y)
+          leads : (y : ℕ) → y < i + 1 → ((z : ℕ) → z < y → kf z ≢ kf y) → Dec (y ≡ i) → Path tree (set keys i key) (kf y) (kf y) (kf y % 4093) (Ok y)
           leads y h f (yes e) = absurd (f k (omega arith) (kk ∙ (sym ek ∙ ap kf (sym e))))
           leads y h f (no e) =
               path_kept tree keys tree (set keys i key)
@@ -181,7 +181,7 @@ module _ (tree keys twins : List ℕ) (i key : ℕ) (few : i < 2048) where
           twinned y h (no e) (no d) =
               rw (get_or-set_other (set twins i k) k y i 0 d, get_or-set_other twins i y k 0 e) (twin_only w ek k hk kk al y (omega arith) d)
 
-  pub enters_free : (at : ℕ) → Path tree keys key key (key % 4093) (Free at)
+  pub enters_free : (at : ℕ) → Path tree keys key key (key % 4093) (Err at)
       → Enters tree keys twins (set tree at (i + 1)) (set keys i key) (set twins i 65535) i key false
   enters_free at p = record {
     passes = λ kf ek w e. enter_free kf ek w at p;
@@ -189,7 +189,7 @@ module _ (tree keys twins : List ℕ) (i key : ℕ) (few : i < 2048) where
   }
 
   -- or as the twin of corner k, a third use where that one has a twin already
-  pub enters_twin : (k : ℕ) → Path tree keys key key (key % 4093) (Found k) → (r : Bool) (twins' : List ℕ)
+  pub enters_twin : (k : ℕ) → Path tree keys key key (key % 4093) (Ok k) → (r : Bool) (twins' : List ℕ)
       → r ≡ not (eqb (get_or (set twins i k) k 0) 65535)
       → twins' ≡ cond (eqb (get_or (set twins i k) k 0) 65535) (set (set twins i k) k i) (set twins i k)
       → Enters tree keys twins tree (set keys i key) twins' i key r
@@ -207,7 +207,7 @@ module _ (tree keys twins : List ℕ) (i key : ℕ) (few : i < 2048) where
 
 -- a corner past the block is met
 module _ (tree keys twins : List ℕ) (key : ℕ) where
-  pub meets_free : (at : ℕ) → Path tree keys key key (key % 4093) (Free at) → Meets tree keys twins twins key false
+  pub meets_free : (at : ℕ) → Path tree keys key key (key % 4093) (Err at) → Meets tree keys twins twins key false
   meets_free at p = record {
     passes = λ kf m j ek w l e. let n = swept_free w p in record {
       met = omega (arith, w.met);
@@ -224,7 +224,7 @@ module _ (tree keys twins : List ℕ) (key : ℕ) where
     thirds = λ kf m j ek w e. absurd (let z : ◌≡◌ {A = ℕ} 0 1 = cc in omega arith);
   }
 
-  module _ (k : ℕ) (p : Path tree keys key key (key % 4093) (Found k)) where
+  module _ (k : ℕ) (p : Path tree keys key key (key % 4093) (Ok k)) where
     meet_twin : (kf : ℕ → ℕ) (m j : ℕ) → kf j ≡ key → Swept tree keys twins kf m j → 2048 ≤ j → get_or twins k 0 ≡ 65535
         → Swept tree keys (set twins k 2048) kf m (j + 1)
     meet_twin kf m j ek w l al = record {

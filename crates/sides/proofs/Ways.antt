@@ -10,11 +10,9 @@ use native.Mathlib.Decide.{ℕ_discrete, dec_lt}
 use lib.ListN.{length, get_or, set}
 use lib.Seq.{get_or-set_same, get_or-set_other}
 use borrow.Author.Tests.{lt-ltb, le-ltb}
-use Rattle.corners.specs.declared.Position.{Position}
-use Rattle.corners.specs.Steps.{begun, step_at, position_after}
+use Rattle.corners.specs.Steps.{Spot, begun, step_at, position_after}
 use Rattle.corners.proofs.Steps.{Small, small_begun, small_step, small_after}
-use Rattle.sides.specs.declared.Spot.{Spot}
-use Rattle.sides.specs.declared.Spot.TheVariants.{Free}
+use Rattle.std.specs.Prelude.{Result, Err}
 use Rattle.sides.specs.Sides.{key_of, key_at, kid, owner_of, Grown, Path, free, found, onward, Way, begins, goes, Sown, Swept}
 use Rattle.sides.proofs.Paths.{held, tree_old, tree_new, free_none}
 
@@ -25,7 +23,7 @@ way_kept tree tree' h begins = begins
 way_kept tree tree' h (goes {at = at} k w e) = goes k (way_kept tree tree' h w) (h at k e)
 
 -- a search that ends at a free place comes there
-path_way : (tree keys : List ℕ) (key : ℕ) {j rest at r : ℕ} → Way tree key j rest at → Path tree keys key rest at (Free r)
+path_way : (tree keys : List ℕ) (key : ℕ) {j rest at r : ℕ} → Way tree key j rest at → Path tree keys key rest at (Err r)
     → (i : ℕ) × (left : ℕ) × Way tree key i left r
 path_way tree keys key {j} {rest} w (free e) = (j, rest, w)
 path_way tree keys key {j = j} {r = r} w (onward {rest = rest} {at = at} k e n p) = path_way tree keys key {j = suc j} (goes k w e) p
@@ -43,7 +41,7 @@ sown_key tree keys i key g s = record {
 
 -- corner i, new, at the free place to which the search for its key comes
 module _ (tree keys : List ℕ) (i key at : ℕ) (g : Grown tree i) (few : i < 2048) (low : at < 12288) (own : owner_of at ≤ i) (ht : length tree ≡ 12288)
-    (hk : length keys ≡ 2048) (p : Path tree keys key key (key % 4093) (Free at)) (s : Sown tree keys) where
+    (hk : length keys ≡ 2048) (p : Path tree keys key key (key % 4093) (Err at)) (s : Sown tree keys) where
   none : get_or tree at 0 ≡ 0
   none = free_none tree keys key p
 
@@ -158,7 +156,7 @@ ways_same tree keys s key key' (goes {j = j} {rest = r} {at = a} k w e) (goes {j
     bits x f i h (no y) = f i (omega arith)
 
 -- how many corners a search looks at
-pub looked : {tree keys : List ℕ} {key rest at : ℕ} {r : Spot} → Path tree keys key rest at r → ℕ
+pub looked : {tree keys : List ℕ} {key rest at : ℕ} {r : Result ℕ ℕ} → Path tree keys key rest at r → ℕ
 looked (free e) = 0
 looked (found k e f) = 1
 looked (onward k e n p) = suc (looked p)
@@ -175,7 +173,7 @@ module _ (tree keys : List ℕ) (s : Sown tree keys) (key : ℕ) (n : Narrow key
           let (x, f) = ways_same tree keys s key (get_or keys k 0) w v refl in
           absurd (d (sym (same_one key (get_or keys k 0) n (narrow at k e) (λ i l. f i (omega arith)))))
 
-  left_to_look : {j rest at : ℕ} {r : Spot} → Way tree key j rest at → j ≤ 30 → (p : Path tree keys key rest at r) → j + looked p ≤ 31
+  left_to_look : {j rest at : ℕ} {r : Result ℕ ℕ} → Way tree key j rest at → j ≤ 30 → (p : Path tree keys key rest at r) → j + looked p ≤ 31
   unfolding looked
   left_to_look w h (free e) = omega arith
   left_to_look w h (found k e f) = omega arith
@@ -184,7 +182,7 @@ module _ (tree keys : List ℕ) (s : Sown tree keys) (key : ℕ) (n : Narrow key
 
 -- so a search in a swept table looks at 31 corners at most, whatever the keys
 pub search_short : (tree keys twins : List ℕ) (kf : ℕ → ℕ) (m j : ℕ) → Swept tree keys twins kf m j → ((y : ℕ) → y < m → Narrow (kf y))
-    → (key : ℕ) → Narrow key → (r : Spot) (p : Path tree keys key key (key % 4093) r) → looked p ≤ 31
+    → (key : ℕ) → Narrow key → (r : Result ℕ ℕ) (p : Path tree keys key key (key % 4093) r) → looked p ≤ 31
 search_short tree keys twins kf m j w n key h r p =
     omega (arith, left_to_look tree keys w.sown key h known begins (omega arith) p)
   where
@@ -200,16 +198,17 @@ key_narrow u v h l = go (dec_lt v u)
     go (yes o) = rw (lt-ltb v u o) (record { low = omega arith; high = omega arith })
     go (no o) = rw (le-ltb v u (omega arith)) (record { low = omega arith; high = omega arith })
 
-text_narrow : (t : List ℕ) (c : Position) → Small c → (x : ℕ) → Narrow (key_at t c x)
+text_narrow : (t : List ℕ) (c : Spot) → Small c → (x : ℕ) → Narrow (key_at t c x)
 unfolding key_at step_at
 text_narrow t c s x = let (h, l, n) = small_step t (position_after t x c) (small_after t x c s) in key_narrow _ _ h l
 
 -- so it is for the blocks of every text: in a table of corners from the d-th of the text on, the search for the side of each corner from there on is short
 pub text_short : (t : List ℕ) (start d : ℕ) → let c = position_after t d (begun start) in (tree keys twins : List ℕ) (m j : ℕ)
-    → Swept tree keys twins (key_at t c) m j → (x : ℕ) (r : Spot) (p : Path tree keys (key_at t c x) (key_at t c x) (key_at t c x % 4093) r) → looked p ≤ 31
+    → Swept tree keys twins (key_at t c) m j → (x : ℕ) (r : Result ℕ ℕ)
+    → (p : Path tree keys (key_at t c x) (key_at t c x) (key_at t c x % 4093) r) → looked p ≤ 31
 text_short t start d tree keys twins m j w x r p = search_short tree keys twins (key_at t c) m j w (λ y h. narrow y) (key_at t c x) (narrow x) r p
   where
-    c : Position
+    c : Spot
     c = position_after t d (begun start)
 
     narrow : (y : ℕ) → Narrow (key_at t c y)

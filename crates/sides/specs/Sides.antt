@@ -1,16 +1,15 @@
 -- What the table of sides holds: a key for each side, a tree to find the first corner that has a key, and each corner's twin.
-use Rattle.std.specs.Prelude.{ℕ, suc, ◌+◌, ◌*◌, ◌-◌, ◌/◌, ◌%◌, ◌≤◌, ◌<◌, ◌≡◌, ◌≢◌, List, Bool, true, false, cond, length, get_or, eqb, ltb, leb}
+use Rattle.std.specs.Prelude.{ℕ, suc, ◌+◌, ◌*◌, ◌-◌, ◌/◌, ◌%◌, ◌≤◌, ◌<◌, ◌≡◌, ◌≢◌, List, Bool, true, false, cond, length}
+use Rattle.std.specs.Prelude.{get_or, eqb, ltb, leb, Result, Ok, Err}
 use Rattle.rules.specs.Lists.{count_below}
-use Rattle.corners.specs.declared.Position.{Position}
-use Rattle.corners.specs.Steps.{step_at}
-use Rattle.sides.specs.declared.Spot as spot
+use Rattle.corners.specs.Steps.{Spot, step_at}
 
 -- a side's two vertices as one number, the same for both directions
 unfoldable pub key_of : ℕ → ℕ → ℕ
 key_of u v = cond (ltb v u) (u * 4294967296 + v) (v * 4294967296 + u)
 
 -- the key of the j-th corner from c on
-unfoldable pub key_at : List ℕ → Position → ℕ → ℕ
+unfoldable pub key_at : List ℕ → Spot → ℕ → ℕ
 key_at t c j = let s = step_at t c j in key_of s.own s.far
 
 -- of corners with these keys, two before corner x have its key
@@ -31,11 +30,11 @@ pub record Grown (tree : List ℕ) (n : ℕ) : Type 0 where
   pub below : (at : ℕ) → get_or tree at 0 ≤ n
   pub newer : (at k : ℕ) → get_or tree at 0 ≡ suc k → owner_of at ≤ k
 
--- a search for a key from a place on, and where it ends
-pub data Path (tree keys : List ℕ) (key : ℕ) : (rest at : ℕ) → spot.Spot → Type 0 where
-  free : {rest at : ℕ} → get_or tree at 0 ≡ 0 → Path tree keys key rest at (spot.TheVariants.Free at)
-  found : {rest at : ℕ} (k : ℕ) → get_or tree at 0 ≡ suc k → get_or keys k 0 ≡ key → Path tree keys key rest at (spot.TheVariants.Found k)
-  onward : {rest at : ℕ} {r : spot.Spot} (k : ℕ) → get_or tree at 0 ≡ suc k → get_or keys k 0 ≢ key → Path tree keys key (rest / 2) (kid k rest) r
+-- a search for a key from a place on, and where it ends: at the corner that has it, or at a free place
+pub data Path (tree keys : List ℕ) (key : ℕ) : (rest at : ℕ) → Result ℕ ℕ → Type 0 where
+  free : {rest at : ℕ} → get_or tree at 0 ≡ 0 → Path tree keys key rest at (Err at)
+  found : {rest at : ℕ} (k : ℕ) → get_or tree at 0 ≡ suc k → get_or keys k 0 ≡ key → Path tree keys key rest at (Ok k)
+  onward : {rest at : ℕ} {r : Result ℕ ℕ} (k : ℕ) → get_or tree at 0 ≡ suc k → get_or keys k 0 ≢ key → Path tree keys key (rest / 2) (kid k rest) r
       → Path tree keys key rest at r
 
 -- the search for a key comes to a place after so many corners with other keys, and so much of the key is left
@@ -62,7 +61,7 @@ pub record Swept (tree keys twins : List ℕ) (kf : ℕ → ℕ) (m j : ℕ) : T
   pub grown : Grown tree m
   pub sown : Sown tree keys
   pub keyed : (y : ℕ) → y < m → get_or keys y 0 ≡ kf y
-  pub leads : (y : ℕ) → y < m → ((z : ℕ) → z < y → kf z ≢ kf y) → Path tree keys (kf y) (kf y) (kf y % 4093) (spot.TheVariants.Found y)
+  pub leads : (y : ℕ) → y < m → ((z : ℕ) → z < y → kf z ≢ kf y) → Path tree keys (kf y) (kf y) (kf y % 4093) (Ok y)
   pub twinned : (y : ℕ) → y < m → Twin kf j y (get_or twins y 0)
   pub clear : (x a b : ℕ) → x < j → a < m → a < x → b < x → kf a ≡ kf x → kf b ≡ kf x → a ≡ b
 
@@ -92,12 +91,12 @@ pub record Stops (kf : ℕ → ℕ) (m n r : ℕ) : Type 0 where
   pub third : r < n → Third kf m r
 
 -- count corners from c on are met past the j that a table is swept for, up to r of them
-pub record GoesOn (t : List ℕ) (c : Position) (tree keys twins : List ℕ) (count r : ℕ) : Type 0 where
+pub record GoesOn (t : List ℕ) (c : Spot) (tree keys twins : List ℕ) (count r : ℕ) : Type 0 where
   pub most : r ≤ count
   pub stops : (kf : ℕ → ℕ) (m j : ℕ) → ((x : ℕ) → kf (j + x) ≡ key_at t c x) → Swept tree keys twins kf m j → 2048 ≤ j → Stops kf m (j + count) (j + r)
 
 -- what is kept of the first corners from c on, for the map
-pub record Kept (t : List ℕ) (c : Position) (twins owns lefts : List ℕ) (count : ℕ) : Type 0 where
+pub record Kept (t : List ℕ) (c : Spot) (twins owns lefts : List ℕ) (count : ℕ) : Type 0 where
   pub own : (j : ℕ) → j < count → get_or owns j 0 ≡ (step_at t c j).own
   pub left : (j : ℕ) → j < count → get_or lefts j 0 ≡ (step_at t c j).left
   pub twin : (j : ℕ) → j < count → Twin (key_at t c) count j (get_or twins j 0)

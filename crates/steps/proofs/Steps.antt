@@ -11,15 +11,17 @@ use lib.Dec.{ltb}
 use borrow.Author.Tests.{eq-eqb, ne_eqb, not-true}
 use Rattle.rules.specs.Map.{by_dart, mark, size, place, link, blank, Limits}
 use Rattle.rules.specs.Walk.{Walk, start, link_of, unknown, Partner, partner, pass, join, fresh, resume, tie, Symbol, apply}
-use Rattle.rules.specs.Naming.{naming, naming_number}
-use Rattle.rules.specs.Refusals.{of_index}
+use Rattle.std.specs.Prelude.{Result, Ok, Err, IsErrAnd}
+use Rattle.rules.specs.Naming.{naming, cause_number, naming_number}
+use Rattle.rules.specs.Refusals.{among, of_index, number_of}
 use Rattle.rules.specs.Reading.{Run, Step, permitted, fault, allow}
 use Rattle.rules.specs.Session.{queues_of, walk_at}
 use Rattle.rules.specs.Inner.{Shape, Emptied, Lowest, Inv}
 use Rattle.rules.specs.declared.Form.{Form}
 use Rattle.rules.specs.declared.Form.TheVariants.{One}
-use Rattle.rules.specs.declared.Naming.{Naming}
-use Rattle.rules.specs.declared.Naming.TheVariants.{Allowed}
+use Rattle.rules.specs.declared.Cause.{Cause}
+use Rattle.rules.specs.declared.Cause.TheVariants.{Unnumbered, Itself, Linked}
+use Rattle.rules.specs.declared.Reason.{Reason}
 use Rattle.rules.specs.declared.Stand.{Stand}
 use Rattle.rules.proofs.Places.{place_below}
 use Rattle.rules.proofs.Lowest.{head_lowest, emptied_none, emptied_passed}
@@ -28,11 +30,10 @@ use Rattle.rules.proofs.Bodies.{one_rests, rested}
 use Rattle.rules.proofs.Moves.{Move, Moved, moved, Named, index_named, see_deduced}
 use Rattle.rules.proofs.Causes.{Says, naming_says, three_causes}
 use Rattle.rules.proofs.Fitness.{queues_of_lem}
-use Rattle.steps.specs.declared.Stepped.{Stepped}
-use Rattle.steps.specs.declared.Stepped.TheVariants.{On, Refused}
+use Rattle.steps.specs.declared.Next.{Next}
 use Rattle.steps.specs.declared.Case.{Case}
 use Rattle.steps.specs.Partners.{partner_for, told_partner}
-use Rattle.steps.specs.Steps.{stand_in, stand, naming_for, Tied, HeadCase, deduced_step, symbol_step, told_step, Lower, Steps}
+use Rattle.steps.specs.Steps.{stand_in, stand, naming_for, Tied, HeadCase, deduced_step, symbol_step, goes_on, told_step, Lower, Steps}
 use Rattle.steps.proofs.Partners.{partner_looking}
 
 -- a link's place is within the tables
@@ -80,10 +81,6 @@ module _ (N n : ℕ) (s : Stand) (t : List ℕ) (dims : 1 ≤ N) (v : Inv (walk_
       let h = v.shape in
       record { dims = (dims, h.ranks); darts = (omega (arith, h.some, h.within), h.small); room = h.table }
 
-  pub stand_seven : length s.positions ≡ 7
-  unfolding walk_at
-  stand_seven = v.shape.seven
-
 -- the head of its lowest queue that isn't empty is served
 module _ (N n k : ℕ) (ps t : List ℕ) (dims : 1 ≤ N) (v : Inv (walk_at by_dart N n (stand k ps) t)) where
   pub serves : (j : ℕ) → Lowest N k ps j → (p : Partner) → partner (walk_at by_dart N n (stand k ps) t) j (get_or ps j 0) ≡ p
@@ -94,7 +91,6 @@ module _ (N n k : ℕ) (ps t : List ℕ) (dims : 1 ≤ N) (v : Inv (walk_at by_d
     heads = head_lowest (walk_at by_dart N n (stand k ps) t) v.shape j low.lower low.ranked low.some;
     case = e;
     limits = stand_limits N n (stand k ps) t dims v;
-    seven = v.shape.seven;
     emptied = low.lower;
     ranked = low.ranked;
     first = refl;
@@ -167,13 +163,13 @@ symbol_blind j b (Symbol.index e) F B w rest =
     allow_blind (permitted w j b (Symbol.index e)) (fault w j b (Symbol.index e)) F B w (apply w j b (Symbol.index e)) rest
 
 -- what is told with one body is told with any number, in any form
-told_in : (F : Form) (B N n k : ℕ) (r : Stepped) (ps t : List ℕ) (rest : List Bool)
+told_in : (F : Form) (B N n k : ℕ) (r : Result Next Reason) (ps t : List ℕ) (rest : List Bool)
     → told_step F B N n k r ps t rest ≡ recast_step F B (told_step One 1 N n k r ps t rest)
 unfolding told_step recast_step recast_run walk_at
-told_in F B N n k (On rank k') ps t rest = refl
-told_in F B N n k (Refused nr) ps t rest = refl
+told_in F B N n k (Ok x) ps t rest = refl
+told_in F B N n k (Err r) ps t rest = refl
 
-made : {N n k : ℕ} {ps t : List ℕ} {f : Walk → List Bool → Step} {r : Stepped} {ps' t' : List ℕ} → Blind f
+made : {N n k : ℕ} {ps t : List ℕ} {f : Walk → List Bool → Step} {r : Result Next Reason} {ps' t' : List ℕ} → Blind f
     → ((rest : List Bool) → told_step One 1 N n k r ps' t' rest ≡ f (walk_at by_dart N n (stand k ps) t) rest) → Lower N r ps' → Steps N n k ps t f r ps' t'
 unfolding walk_at
 made {N} {n} {k} {ps} {t} {f} {r} {ps'} {t'} blind e l = record {
@@ -212,11 +208,11 @@ module _ {N n k : ℕ} {ps t : List ℕ} {j b : ℕ} {p : Partner} (v : HeadCase
   -- what a step leaves that goes on
   goes : (f : Walk → List Bool → Step) (w' : Walk) → Blind f → ((rest : List Bool) → f here rest ≡ Step.goes w' rest)
       → (rank k' : ℕ) (ps' t' : List ℕ) → walk_at by_dart N n (stand k' ps') t' ≡ w' → Emptied k' ps' rank × (rank ≤ N)
-      → Steps N n k ps t f (On rank k') ps' t'
+      → Steps N n k ps t f (goes_on rank k') ps' t'
   unfolding told_step Lower
   goes f w' blind g rank k' ps' t' e l = made blind (λ rest. rw e (sym (g rest))) l
 
-  pub known_step_lem : p ≡ Partner.known → (ps' : List ℕ) → ps' ≡ set ps j (b + 1) → Steps N n k ps t (known_step j b) (On j k) ps' t
+  pub known_step_lem : p ≡ Partner.known → (ps' : List ℕ) → ps' ≡ set ps j (b + 1) → Steps N n k ps t (known_step j b) (goes_on j k) ps' t
   known_step_lem q ps' e =
       goes (known_step j b) (pass here j b) (known_blind j b) (λ rest. refl) j k ps' t
       (walk_passed (Move.passes j b v.heads (v.case ∙ q)) ps' e) (still_empty ps' e)
@@ -232,50 +228,58 @@ module _ {N n k : ℕ} {ps t : List ℕ} {j b e : ℕ} (v : HeadCase N n k ps t 
       omega (arith, d.value, l, v.inv.shape.within)
 
   module _ (x : ℕ) (ex : x ≡ link by_dart N n t j e) where
-    pub deduced_tied : x ≡ mark → (ps' t' : List ℕ) → Tied N n ps t j b e ps' t' → Steps N n k ps t (deduced_step j b e) (On j k) ps' t'
+    pub deduced_tied : x ≡ mark → (ps' t' : List ℕ) → Tied N n ps t j b e ps' t' → Steps N n k ps t (deduced_step j b e) (goes_on j k) ps' t'
     unfolding allow
     deduced_tied q ps' t' z =
         let u : unknown (here v) j e ≡ true = unfold unknown link_of walk_at in eq-eqb (link by_dart N n t j e) mark (sym ex ∙ q) in
         goes v (deduced_step j b e) (tie (here v) j b e) (deduced_blind j b e) (λ rest. rw u) j k ps' t'
         (walk_tied v [] e (Move.deduces j b e v.heads v.case u) ps' t' z) (still_empty v ps' z.positions)
 
-    pub deduced_14 : x ≢ mark → Steps N n k ps t (deduced_step j b e) (Refused 14) ps t
-    unfolding told_step Lower allow
+    pub deduced_14 : x ≢ mark → Steps N n k ps t (deduced_step j b e) (Err Reason.Taken) ps t
+    unfolding told_step number_of Lower allow
     deduced_14 q =
         let u : unknown (here v) j e ≡ false = unfold unknown link_of walk_at in ne_eqb (link by_dart N n t j e) mark (λ z. q (ex ∙ z)) in
         made (deduced_blind j b e) (λ rest. rw u) tt
 
+-- each cause refuses
+cause_refuses : (c : Cause) → of_index (cause_number c) ≡ true
+unfolding of_index among cause_number
+cause_refuses Unnumbered = refl
+cause_refuses Itself = refl
+cause_refuses Linked = refl
+
 -- the step by a symbol, one way through the code at a time
 module _ {N n k : ℕ} {ps t : List ℕ} {j b : ℕ} (v : HeadCase N n k ps t j b Partner.asked) where
   on : (x : Symbol) → permitted (here v) j b x ≡ true → (rank k' : ℕ) (ps' t' : List ℕ) → walk_at by_dart N n (stand k' ps') t' ≡ apply (here v) j b x
-      → Emptied k' ps' rank × (rank ≤ N) → Steps N n k ps t (symbol_step j b x) (On rank k') ps' t'
+      → Emptied k' ps' rank × (rank ≤ N) → Steps N n k ps t (symbol_step j b x) (goes_on rank k') ps' t'
   unfolding allow
   on x h rank k' ps' t' e l = goes v (symbol_step j b x) (apply (here v) j b x) (symbol_blind j b x) (λ rest. rw h) rank k' ps' t' e l
 
-  off : (x : Symbol) → permitted (here v) j b x ≡ false → Steps N n k ps t (symbol_step j b x) (Refused (fault (here v) j b x)) ps t
+  off : (x : Symbol) → permitted (here v) j b x ≡ false → (r : Reason) → number_of r ≡ fault (here v) j b x
+      → Steps N n k ps t (symbol_step j b x) (Err r) ps t
   unfolding told_step Lower allow
-  off x h = made (symbol_blind j b x) (λ rest. rw h) tt
+  off x h r e = made (symbol_blind j b x) (λ rest. rw (h, e)) tt
 
-  pub symbol_border : (ps' t' : List ℕ) → Tied N n ps t j b b ps' t' → Steps N n k ps t (symbol_step j b Symbol.border) (On j k) ps' t'
+  pub symbol_border : (ps' t' : List ℕ) → Tied N n ps t j b b ps' t' → Steps N n k ps t (symbol_step j b Symbol.border) (goes_on j k) ps' t'
   unfolding permitted apply
   symbol_border ps' t' x =
       on Symbol.border refl j k ps' t'
       (walk_tied v (Symbol.border ∷ []) b (Move.reads j b Symbol.border v.heads v.case refl) ps' t' x) (still_empty v ps' x.positions)
 
-  module _ (e : ℕ) (y : Naming) (ey : y ≡ naming_for N n t k j b e) where
+  module _ (e : ℕ) (y : Result (Unit {0}) Cause) (ey : y ≡ naming_for N n t k j b e) where
     named : naming (here v) j b e ≡ y
     unfolding naming unknown link_of walk_at
     named = sym ey
 
-    may_name : y ≡ Allowed → Named (here v) j b e
+    may_name : y ≡ Ok tt → Named (here v) j b e
     may_name q = unfold Says in rw (named, q) at (naming_says (here v) j b e)
 
     -- a dart that may be named is numbered
-    pub name_below : y ≡ Allowed → e < k
+    pub name_below : y ≡ Ok tt → e < k
     unfolding walk_at
     name_below q = (may_name q).below
 
-    pub symbol_index : y ≡ Allowed → (ps' t' : List ℕ) → Tied N n ps t j b e ps' t' → Steps N n k ps t (symbol_step j b (Symbol.index e)) (On j k) ps' t'
+    pub symbol_index : y ≡ Ok tt → (ps' t' : List ℕ) → Tied N n ps t j b e ps' t' → Steps N n k ps t (symbol_step j b (Symbol.index e)) (goes_on j k) ps' t'
     unfolding apply
     symbol_index q ps' t' x =
         let p = index_named (here v) j b e (may_name q) in
@@ -284,21 +288,23 @@ module _ {N n k : ℕ} {ps t : List ℕ} {j b : ℕ} (v : HeadCase N n k ps t j 
         (still_empty v ps' x.positions)
 
     -- any of the three causes refuses by its number
-    pub symbol_cause : (c : Naming) → y ≡ c → of_index (naming_number c) ≡ true
-        → Steps N n k ps t (symbol_step j b (Symbol.index e)) (Refused (naming_number c)) ps t
-    symbol_cause c q i =
-        let f : fault (here v) j b (Symbol.index e) ≡ naming_number c = unfold fault in rw (named, q) in
-        let p = not-true (permitted (here v) j b (Symbol.index e)) (sym (three_causes (here v) j b e) ∙ rw f i) in
-        rw f at (off (Symbol.index e) p)
+    pub symbol_cause : (c : Cause) → y ≡ Err c → (r : Result Next Reason) → IsErrAnd r (λ x. number_of x ≡ cause_number c)
+        → Steps N n k ps t (symbol_step j b (Symbol.index e)) r ps t
+    unfolding naming_number
+    symbol_cause c q (Ok x) i = absurd i
+    symbol_cause c q (Err x) i =
+        let f : fault (here v) j b (Symbol.index e) ≡ cause_number c = unfold fault in rw (named, q) in
+        let p = not-true (permitted (here v) j b (Symbol.index e)) (sym (three_causes (here v) j b e) ∙ rw f (cause_refuses c)) in
+        off (Symbol.index e) p x (i ∙ sym f)
 
   module _ (y : Bool) (ey : y ≡ ltb k n) where
-    pub symbol_new : y ≡ true → (ps' t' : List ℕ) → Tied N n ps t j b k ps' t' → Steps N n k ps t (symbol_step j b Symbol.new) (On 0 (k + 1)) ps' t'
+    pub symbol_new : y ≡ true → (ps' t' : List ℕ) → Tied N n ps t j b k ps' t' → Steps N n k ps t (symbol_step j b Symbol.new) (goes_on 0 (k + 1)) ps' t'
     unfolding permitted walk_at
     symbol_new q ps' t' x =
         let p : permitted (here v) j b Symbol.new ≡ true = sym ey ∙ q in
         on Symbol.new p 0 (k + 1) ps' t'
         (walk_new v (Symbol.new ∷ []) (Move.reads j b Symbol.new v.heads v.case p) ps' t' x) (emptied_none _ _, omega arith)
 
-    pub symbol_13 : y ≡ false → Steps N n k ps t (symbol_step j b Symbol.new) (Refused 13) ps t
-    unfolding fault permitted walk_at
-    symbol_13 q = off Symbol.new (sym ey ∙ q)
+    pub symbol_13 : y ≡ false → Steps N n k ps t (symbol_step j b Symbol.new) (Err Reason.TooMany) ps t
+    unfolding fault permitted number_of walk_at
+    symbol_13 q = off Symbol.new (sym ey ∙ q) Reason.TooMany refl

@@ -1,5 +1,5 @@
 -- The stored record: a session as seventeen numbers, the session that seventeen numbers give, and which of them a session stands for.
-use Rattle.std.specs.Prelude.{ℕ, zero, suc, List, [], ◌∷◌, ◌++◌, Bool, true, ◌&&◌, ◌||◌, get_or, take, drop, eqb, ltb, leb}
+use Rattle.std.specs.Prelude.{ℕ, zero, suc, List, [], ◌∷◌, ◌++◌, Bool, true, ◌&&◌, ◌||◌, cond, Option, Some, None, get_or, take, drop, eqb, ltb, leb}
 use Rattle.rules.specs.declared.Session.{Session}
 use Rattle.rules.specs.declared.State.{State}
 use Rattle.rules.specs.declared.State.TheVariants.{Header, Running, Complete, Closed, Refused}
@@ -94,3 +94,19 @@ all_narrow (x ∷ l) = ltb x 65536 && all_narrow l
 -- a Session stands for seventeen numbers: its state does, its form does, and the numbers after the state have at most 16 bits
 unfoldable pub standing : List ℕ → Bool
 standing r = state_stands (get_or r 0 0) (get_or r 1 0) (get_or r 2 0) && form_stands (get_or r 15 0) && all_narrow (after_by r)
+
+-- the state of three numbers, if one stands for them
+unfoldable pub state_in : ℕ → ℕ → ℕ → Option State
+state_in k nr p = cond (state_stands k nr p) (Some (state_by k nr p)) None
+
+-- the form of a number, if one stands for it
+unfoldable pub form_in : ℕ → Option Form
+form_in k = cond (form_stands k) (Some (form_by k)) None
+
+-- a number, if it has at most 16 bits
+unfoldable pub narrow_in : ℕ → Option ℕ
+narrow_in x = cond (ltb x 65536) (Some x) None
+
+-- the session of seventeen numbers, if one stands for them
+unfoldable pub session_in : List ℕ → Option Session
+session_in r = cond (standing r) (Some (session_by r)) None

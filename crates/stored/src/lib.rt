@@ -2,20 +2,19 @@
 // its numbers in order. Which number of a session stands where is known here and nowhere else.
 #![tactic(auto)]
 
-ghost use Rattle.std.specs.Prelude.{◌≡◌, true, cond};
+ghost use Rattle.std.specs.Prelude.{◌≡◌, true, [], ◌∷◌};
 ghost use Rattle.rules.specs.Reading.{plain_answer};
-ghost use Rattle.stored.specs.Answers.{read_numbers, page_numbers, report_numbers};
+ghost use Rattle.stored.specs.Answers.{check_numbers, write_numbers, read_numbers, page_numbers, report_numbers};
 ghost use Rattle.stored.specs.Layout.{state_number, refusal_number, refusal_place, form_number, stored_session};
-ghost use Rattle.stored.specs.Layout.{state_by, form_by, positions_by, session_by, state_stands, after_by};
-ghost use Rattle.stored.specs.Layout.{all_narrow, standing};
+ghost use Rattle.stored.specs.Layout.{state_by, form_by, session_by, standing};
+ghost use Rattle.stored.specs.Layout.{state_in, form_in, narrow_in, session_in};
 
-use rules::{Form, PageAnswer, ReadAnswer, ReportAnswer, Session, State};
+use rules::{
+    CheckAnswer, Form, PageAnswer, ReadAnswer, Reason, ReportAnswer, Session, State, WriteAnswer,
+};
 
 // How many numbers a record has.
 const NUMBERS: usize = 17;
-
-// How many of them, the first, are the state's.
-const OF_STATE: usize = 3;
 
 // A record: state, refusal's number and place; then N, n, count, seven positions, the waiting bits and their value;
 // form and bodies last, so that the others stand where they stood without them.
@@ -26,6 +25,21 @@ pub type ReadRoom = [u32; 5];
 
 // A page's answer as stored: the reading's, and the bytes to fetch.
 pub type PageRoom = [u32; 6];
+
+// The check's answer as stored. This and the conversions below are no `From`: an array and a record of `rules` are both
+// foreign here.
+pub fn check_numbers(a: CheckAnswer) -> [u32; 2]
+    ensures { result ≡ check_numbers a }
+{
+    [a.number, a.place]
+}
+
+// The writer's answer as stored.
+pub fn write_numbers(a: WriteAnswer) -> [u32; 4]
+    ensures { result ≡ write_numbers a }
+{
+    [a.number, a.place, a.written, a.length]
+}
 
 // A reading's answer as stored.
 pub fn read_numbers(a: ReadAnswer) -> ReadRoom
@@ -43,11 +57,12 @@ pub fn page_numbers(a: PageAnswer) -> PageRoom
 }
 
 // The answer on a record that is no fit session.
+#[tactic(auto, unfolding(rules::specs::Reading::plain_answer, rules::specs::Refusals::number_of))]
 pub fn unfit() -> ReadAnswer
     ensures { result ≡ plain_answer 19 0 }
 {
     ReadAnswer {
-        number: 19,
+        number: Reason::Unfit.number(),
         place: 0,
         steps: 0,
         dim: 0,
@@ -70,13 +85,6 @@ pub fn unfit_page_numbers() -> PageRoom
     page_numbers(PageAnswer { reading, fetch: 0 })
 }
 
-// 1 for true, 0 for false.
-pub fn flag(b: bool) -> u32
-    ensures { result ≡ cond b 1 0 }
-{
-    if b { 1 } else { 0 }
-}
-
 // The report's answer as stored.
 pub fn report_numbers(a: ReportAnswer) -> [u32; 11]
     ensures { result ≡ report_numbers a }
@@ -93,46 +101,20 @@ pub fn report_numbers(a: ReportAnswer) -> [u32; 11]
         c[5],
         c[6],
         a.free,
-        flag(a.orientable),
+        u32::from(a.orientable),
     ]
 }
 
-// A state's number.
-pub fn state_number(state: State) -> u32
-    ensures { result ≡ state_number state }
+// A state's three numbers: its own, then the number and place of a refusal, else 0.
+pub fn state_numbers(state: State) -> [u32; 3]
+    ensures { result ≡ state_number state ∷ refusal_number state ∷ refusal_place state ∷ [] }
 {
     match state {
-        State::Header => 0,
-        State::Running => 1,
-        State::Complete => 2,
-        State::Closed => 3,
-        State::Refused(_, _) => 4,
-    }
-}
-
-// The number of a refusal, else 0.
-pub fn refusal_number(state: State) -> u32
-    ensures { result ≡ refusal_number state }
-{
-    match state {
-        State::Header => 0,
-        State::Running => 0,
-        State::Complete => 0,
-        State::Closed => 0,
-        State::Refused(number, _) => number,
-    }
-}
-
-// The place of a refusal, else 0.
-pub fn refusal_place(state: State) -> u32
-    ensures { result ≡ refusal_place state }
-{
-    match state {
-        State::Header => 0,
-        State::Running => 0,
-        State::Complete => 0,
-        State::Closed => 0,
-        State::Refused(_, place) => place,
+        State::Header => [0, 0, 0],
+        State::Running => [1, 0, 0],
+        State::Complete => [2, 0, 0],
+        State::Closed => [3, 0, 0],
+        State::Refused(number, place) => [4, number, place],
     }
 }
 
@@ -150,33 +132,22 @@ pub fn form_number(form: Form) -> u32
 pub fn stored_positions(p: [u16; 7]) -> [u32; 7]
     ensures { result ≡ p }
 {
-    [
-        p[0] as u32,
-        p[1] as u32,
-        p[2] as u32,
-        p[3] as u32,
-        p[4] as u32,
-        p[5] as u32,
-        p[6] as u32,
-    ]
+    p.map(|x| u32::from(x))
 }
 
 // A session as stored.
 pub fn stored_session(s: Session) -> Record
     ensures { result ≡ stored_session s }
 {
-    let state = s.state;
-    let given = s.positions;
-    let p = stored_positions(given);
-    let form = s.form;
-    let f = form_number(form);
+    let [state, number, place] = state_numbers(s.state);
+    let p = stored_positions(s.positions);
     [
-        state_number(state),
-        refusal_number(state),
-        refusal_place(state),
-        s.dim as u32,
-        s.darts as u32,
-        s.count as u32,
+        state,
+        number,
+        place,
+        u32::from(s.dim),
+        u32::from(s.darts),
+        u32::from(s.count),
         p[0],
         p[1],
         p[2],
@@ -184,57 +155,14 @@ pub fn stored_session(s: Session) -> Record
         p[4],
         p[5],
         p[6],
-        s.waiting as u32,
-        s.value as u32,
-        f,
-        s.bodies as u32,
+        u32::from(s.waiting),
+        u32::from(s.value),
+        form_number(s.form),
+        u32::from(s.bodies),
     ]
 }
 
-// Does a state stand for three numbers? Only a refusal has number and place.
-pub fn state_stands(state: u32, number: u32, place: u32) -> bool
-    ensures { result ≡ state_stands state number place }
-{
-    if 4 < state {
-        return false;
-    }
-    if state == 4 {
-        return true;
-    }
-    if number != 0 {
-        return false;
-    }
-    place == 0
-}
-
-// The numbers after the state have at most 16 bits.
-pub fn narrow(kept: Record) -> bool
-    ensures { result ≡ all_narrow (after_by kept) }
-{
-    let mut k = OF_STATE;
-    while k < NUMBERS {
-        if 65535 < kept[k] {
-            return false;
-        }
-        k += 1;
-    }
-    true
-}
-
-// Does a session stand for the record? There are two forms, 0 and 1.
-pub fn stands(kept: Record) -> bool
-    ensures { result ≡ standing kept }
-{
-    if !state_stands(kept[0], kept[1], kept[2]) {
-        return false;
-    }
-    if 1 < kept[15] {
-        return false;
-    }
-    narrow(kept)
-}
-
-// The state of three numbers.
+// The state of three numbers, any numbers: 4 and more are a refusal's.
 pub fn state_of(state: u32, number: u32, place: u32) -> State
     ensures { result ≡ state_by state number place }
 {
@@ -247,7 +175,18 @@ pub fn state_of(state: u32, number: u32, place: u32) -> State
     }
 }
 
-// The form of a number.
+// The state of three numbers, if one stands for them. Only a refusal has number and place.
+#[tactic(auto, using(crate::proofs::Laws::states))]
+pub fn state_in(state: u32, number: u32, place: u32) -> Option<State>
+    ensures { result ≡ state_in state number place }
+{
+    match (state, number, place) {
+        (0..=3, 0, 0) | (4, _, _) => Some(state_of(state, number, place)),
+        _ => None,
+    }
+}
+
+// The form of a number, any number: 1 and more are the several form's.
 pub fn form_of(form: u32) -> Form
     ensures { result ≡ form_by form }
 {
@@ -257,40 +196,54 @@ pub fn form_of(form: u32) -> Form
     }
 }
 
-// The positions of a record that a session stands for.
-pub fn positions_of(kept: Record) -> [u16; 7]
-    requires { standing kept ≡ true }
-    ensures { result ≡ positions_by kept }
+// The form of a number, if one stands for it.
+#[tactic(auto, using(crate::proofs::Laws::forms))]
+pub fn form_in(form: u32) -> Option<Form>
+    ensures { result ≡ form_in form }
 {
-    [
-        kept[6] as u16,
-        kept[7] as u16,
-        kept[8] as u16,
-        kept[9] as u16,
-        kept[10] as u16,
-        kept[11] as u16,
-        kept[12] as u16,
-    ]
+    match form {
+        0 | 1 => Some(form_of(form)),
+        _ => None,
+    }
 }
 
-// The session that stands for a record.
+// A number, if it has at most 16 bits.
+pub fn narrow_in(n: u32) -> Option<u16>
+    ensures { result ≡ narrow_in n }
+{
+    u16::try_from(n).ok()
+}
+
+// The session that stands for a record, if there is one.
+#[tactic(auto, using(crate::proofs::Laws::no_session))]
+pub fn session_in(kept: Record) -> Option<Session>
+    ensures { result ≡ session_in kept }
+{
+    Some(Session {
+        state: state_in(kept[0], kept[1], kept[2])?,
+        dim: narrow_in(kept[3])?,
+        darts: narrow_in(kept[4])?,
+        count: narrow_in(kept[5])?,
+        positions: [
+            narrow_in(kept[6])?,
+            narrow_in(kept[7])?,
+            narrow_in(kept[8])?,
+            narrow_in(kept[9])?,
+            narrow_in(kept[10])?,
+            narrow_in(kept[11])?,
+            narrow_in(kept[12])?,
+        ],
+        waiting: narrow_in(kept[13])?,
+        value: narrow_in(kept[14])?,
+        form: form_in(kept[15])?,
+        bodies: narrow_in(kept[16])?,
+    })
+}
+
+// The session of a record that one is known to stand for.
 pub fn session_of(kept: Record) -> Session
     requires { standing kept ≡ true }
     ensures { result ≡ session_by kept }
 {
-    let state = state_of(kept[0], kept[1], kept[2]);
-    let positions = positions_of(kept);
-    let form = form_of(kept[15]);
-    let bodies = kept[16] as u16;
-    Session {
-        state,
-        dim: kept[3] as u16,
-        darts: kept[4] as u16,
-        count: kept[5] as u16,
-        positions,
-        waiting: kept[13] as u16,
-        value: kept[14] as u16,
-        form,
-        bodies,
-    }
+    session_in(kept).unwrap_or(Session::open())
 }

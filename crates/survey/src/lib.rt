@@ -1,221 +1,196 @@
 // The pass over a whole text: 26, or where the faces stand and the first of them that 27 or 28 refuses.
 #![tactic(auto)]
 
-ghost use Rattle.std.specs.Prelude.{◌≡◌, cond, ◌+◌, ◌<◌, ltb};
+ghost use Rattle.std.specs.Prelude.{◌≡◌, ◌+◌, ◌<◌, IfOk};
 ghost use Rattle.shapes.specs.Text.{number, several, face};
-ghost use Rattle.text.specs.Leaves.{Fresh};
-ghost use Rattle.survey.specs.Flaws.{worse_of, look_of, sight_of, judged_of, survey_of, planned, plan, outline_of};
+ghost use Rattle.text.specs.Leaves.{of, told, told_of, alone};
+ghost use Rattle.survey.specs.Flaws.{reason_of, flawed, worse_of, read_as, look, sight, judged_of, surveyed};
+ghost use Rattle.survey.specs.Flaws.{outlines, planned, plan};
 
-use text::{Header, Place, Reading, Sizes};
+use rules::{Reason, Refusal};
+use text::{Known, Malformed, Place, Sizes};
 
-// 27 or 28 of a face so far, or 0: 27 comes first, wherever in the face it is.
-fn worse(number: u32, vertices: u32, own: u32, far: u32) -> u32
-    ensures { result ≡ worse_of number vertices own far }
+// 27: a vertex number is too large; 28: fewer than three corners, or two equal neighbours.
+#[derive(Clone, Copy)]
+pub enum Fault {
+    Large,
+    Poor,
+}
+
+impl From<Fault> for Reason {
+    ghost from_gives = { λ fault reason. reason ≡ reason_of fault };
+
+    fn from(fault: Fault) -> Reason {
+        match fault {
+            Fault::Large => Reason::Vertex,
+            Fault::Poor => Reason::Face,
+        }
+    }
+}
+
+// The fault of a face with one corner more: 27 comes first, wherever in the face it is.
+fn worse(fault: Option<Fault>, vertices: u32, own: u32, far: u32) -> Option<Fault>
+    ensures { result ≡ worse_of fault vertices own far }
 {
     if vertices <= far {
-        return 27;
+        return Some(Fault::Large);
     }
-    if number != 0 {
-        return number;
-    }
-    if own == far {
-        return 28;
-    }
-    0
+    fault.or((own == far).then_some(Fault::Poor))
 }
 
-// 26 at a place; or 27, 28 or 0, and the position after the corners.
-#[derive(Clone, Copy)]
-pub enum Look {
-    Bad(usize),
-    Good(u32, usize),
-}
-
-// The corners of a face after its first.
-fn others(text: &[u8], at: usize, count: u32, vertices: u32, first: u32, flaw: u32) -> Look
-    requires { Fresh text.now at }
-    ensures { result ≡ look_of vertices first flaw first (several (number text.now) count at) }
+// The corners of a face after its first: the face's fault, and the place after them.
+fn others(
+    start: Place<'_>,
+    count: u32,
+    vertices: u32,
+    first: u32,
+    fault: Option<Fault>,
+) -> Result<Known<'_, Option<Fault>>, Malformed>
+    ensures reading { told result
+        ≡ read_as (look vertices first fault first) (several (number start.entry.text.now) count start.entry.at) }
+    ensures text { IfOk result (λ k. k.after.text ≡ start.entry.text) }
 {
-    let mut number = flaw;
+    let mut worst = fault;
     let mut own = first;
-    let mut p = at;
-    let mut k = 0;
-    while k < count {
-        match text::number(text, p) {
-            Reading::Bad(w) => {
-                return Look::Bad(w);
-            }
-            Reading::Good(v, e) => {
-                number = worse(number, vertices, own, v);
-                own = v;
-                p = e;
-            }
-        }
-        k += 1;
+    let mut p = start;
+    for _ in 0..count {
+        let far = p.number()?;
+        worst = worse(worst, vertices, own, far.value);
+        own = far.value;
+        p = far.after;
     }
-    Look::Good(worse(number, vertices, own, first), p)
+    Ok(Known {
+        value: worse(worst, vertices, own, first),
+        after: p,
+    })
 }
 
-// 26 at a place; or 27, 28 or 0, the count of corners and the position after the line.
+// A face's fault, and how many corners it has.
 #[derive(Clone, Copy)]
-pub enum Sight {
-    Bad(usize),
-    Good(u32, u32, usize),
+pub struct Face {
+    pub fault: Option<Fault>,
+    pub corners: u32,
 }
 
-// What a face of so few corners begins with.
-fn begins(count: u32) -> u32
-    ensures { result ≡ cond (ltb count 3) 28 0 }
+// One face, and the place after its line.
+fn seen(start: Place<'_>, vertices: u32) -> Result<Known<'_, Face>, Malformed>
+    ensures reading { told result ≡ read_as (sight vertices) (of face start.entry) }
+    ensures text { IfOk result (λ k. k.after.text ≡ start.entry.text) }
 {
-    if count < 3 {
-        return 28;
+    let count = start.number()?;
+    let corners = count.value;
+    if corners == 0 {
+        return Ok(Known {
+            value: Face {
+                fault: Some(Fault::Poor),
+                corners,
+            },
+            after: text::line_end(start.text, count.after.at),
+        });
     }
-    0
+    let first = count.after.number()?;
+    let few = (corners < 3).then_some(Fault::Poor);
+    let last = others(first.after, corners - 1, vertices, first.value, few)?;
+    Ok(Known {
+        value: Face {
+            fault: last.value,
+            corners,
+        },
+        after: text::line_end(start.text, last.after.at),
+    })
 }
 
-// One face.
-fn seen(text: &[u8], at: usize, vertices: u32) -> Sight
-    requires { Fresh text.now at }
-    ensures { result ≡ sight_of vertices (face text.now at) }
-{
-    match text::number(text, at) {
-        Reading::Bad(w) => Sight::Bad(w),
-        Reading::Good(count, e) => {
-            if count == 0 {
-                return Sight::Good(28, 0, text::line_end(text, e));
-            }
-            match text::number(text, e) {
-                Reading::Bad(w) => Sight::Bad(w),
-                Reading::Good(v, p) => match others(
-                    text,
-                    p,
-                    count - 1,
-                    vertices,
-                    v,
-                    begins(count),
-                ) {
-                    Look::Bad(w) => Sight::Bad(w),
-                    Look::Good(number, q) => Sight::Good(number, count, text::line_end(text, q)),
-                },
-            }
-        }
-    }
-}
-
-// The first face that 27 or 28 refuses and by which (0: none yet), and how many corners are before it.
+// A face that 27 or 28 refuses.
 #[derive(Clone, Copy)]
 pub struct Flaw {
-    pub number: u32,
+    pub fault: Fault,
     pub face: u32,
+}
+
+impl From<Flaw> for Refusal<u64> {
+    ghost from_gives = { λ f r. r ≡ flawed f };
+
+    fn from(f: Flaw) -> Refusal<u64> {
+        Refusal {
+            reason: Reason::from(f.fault),
+            place: f.face as u64,
+        }
+    }
+}
+
+// The first flaw so far, and how many corners are before it.
+#[derive(Clone, Copy)]
+pub struct Survey {
+    pub flaw: Option<Flaw>,
     pub corners: usize,
 }
 
 // With one face more: what comes after a flaw changes nothing.
-fn judged(s: Flaw, face: u32, number: u32, corners: u32) -> Flaw
-    requires { s.corners + corners < 18446744073709551616 }
-    ensures { result ≡ judged_of s face number corners }
+fn judged(s: Survey, face: u32, f: Face) -> Survey
+    requires { s.corners + f.corners < 18446744073709551616 }
+    ensures { result ≡ judged_of s face f }
 {
-    if s.number != 0 {
+    if s.flaw.is_some() {
         return s;
     }
-    if number != 0 {
-        return Flaw {
-            number: number,
-            face: face,
+    match f.fault {
+        Some(fault) => Survey {
+            flaw: Some(Flaw { fault, face }),
             corners: s.corners,
-        };
+        },
+        None => Survey {
+            flaw: None,
+            corners: s.corners + f.corners as usize,
+        },
     }
-    Flaw {
-        number: 0,
-        face: 0,
-        corners: s.corners + corners as usize,
-    }
-}
-
-// 26 at a place, or what 27 and 28 say.
-#[derive(Clone, Copy)]
-pub enum Survey {
-    Bad(usize),
-    Good(Flaw),
 }
 
 // All faces, each to its end: 26 in a later one comes before 27 and 28 of this.
-fn faces(text: &[u8], at: usize, count: u32, vertices: u32) -> Survey
-    requires { Fresh text.now at }
-    ensures { result ≡ survey_of vertices (several (face text.now) count at) }
+fn faces(start: Place<'_>, count: u32, vertices: u32) -> Result<Survey, Malformed>
+    ensures { result ≡ told_of (surveyed vertices) (several (face start.entry.text.now) count start.entry.at) }
 {
-    let mut s = Flaw {
-        number: 0,
-        face: 0,
+    let mut s = Survey {
+        flaw: None,
         corners: 0,
     };
-    let mut p = at;
-    let mut k = 0;
-    while k < count {
-        match seen(text, p, vertices) {
-            Sight::Bad(w) => {
-                return Survey::Bad(w);
-            }
-            Sight::Good(number, corners, e) => {
-                s = judged(s, k, number, corners);
-                p = e;
-            }
-        }
-        k += 1;
+    let mut p = start;
+    for k in 0..count {
+        let f = seen(p, vertices)?;
+        s = judged(s, k, f.value);
+        p = f.after;
     }
-    Survey::Good(s)
+    Ok(s)
 }
 
 // Where the first face stands, and what 27 and 28 say of the faces.
 #[derive(Clone, Copy)]
-pub struct Plan {
-    pub start: usize,
-    pub number: u32,
-    pub face: u32,
+pub struct Plan<'a> {
+    pub start: Place<'a>,
+    pub flaw: Option<Flaw>,
     pub corners: usize,
 }
 
-// 26 at a place, or the plan.
-#[derive(Clone, Copy)]
-pub enum Outline {
-    Bad(usize),
-    Good(Plan),
-}
-
 // After the counts: the vertices and the faces.
-fn body(text: &[u8], c: Sizes) -> Outline
-    requires { Fresh text.now c.after }
-    ensures { result ≡ outline_of (planned text.now c) }
+fn body(c: Known<'_, Sizes>) -> Result<Plan<'_>, Malformed>
+    ensures plan { outlines result ≡ told_of alone (planned c.entry.after.text.now c.entry.value c.entry.after.at) }
+    ensures text { IfOk result (λ p. p.start.text ≡ c.entry.after.text) }
 {
-    match text::passed(text, c.after, 3 * (c.vertices as u64)) {
-        Place::Bad(w) => Outline::Bad(w),
-        Place::Good(u) => {
-            let s = faces(text, u, c.faces, c.vertices);
-            match s {
-                Survey::Bad(w) => Outline::Bad(w),
-                Survey::Good(f) => Outline::Good(Plan {
-                    start: u,
-                    number: f.number,
-                    face: f.face,
-                    corners: f.corners,
-                }),
-            }
-        }
-    }
+    let sizes = c.value;
+    let start = c.after.passed(3 * (sizes.vertices as u64))?;
+    let s = faces(start, sizes.faces, sizes.vertices)?;
+    Ok(Plan {
+        start,
+        flaw: s.flaw,
+        corners: s.corners,
+    })
 }
 
 // 26 over the whole text; else where the faces stand and what 27 and 28 say of them.
-pub fn outlined(text: &[u8]) -> Outline
-    ensures { result ≡ outline_of (plan text.now) }
+pub fn outlined(text: &[u8]) -> Result<Plan<'_>, Malformed>
+    ensures plan { outlines result ≡ told_of alone (plan text.now) }
+    ensures text { IfOk result (λ p. p.start.text ≡ text.entry) }
 {
-    match text::keyword(text) {
-        Place::Bad(w) => Outline::Bad(w),
-        Place::Good(p) => {
-            let h = text::counts(text, p);
-            match h {
-                Header::Bad(w) => Outline::Bad(w),
-                Header::Good(c) => body(text, c),
-            }
-        }
-    }
+    let start = text::keyword(text)?;
+    let sizes = start.counts()?;
+    body(sizes)
 }

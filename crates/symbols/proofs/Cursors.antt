@@ -1,7 +1,6 @@
 -- Laws of cursors: the first bits at hand, a byte more of them, the cursor past them, and the symbol that they tell. Rests on the laws of hands.
-use Prim.Native.Nat.{ℕ, ◌+◌, ◌*◌, ◌-◌, ◌/◌, ◌%◌, ◌≤◌, ◌<◌, ◌^◌}
+use Prim.Native.Nat.{ℕ, ◌+◌, ◌*◌, ◌-◌, ◌/◌, ◌%◌, ◌≤◌, ◌<◌, ◌^◌, min}
 use mathlib.Core.Path.{◌≡◌, refl, ap, sym, ◌∙◌}
-use mathlib.Core.Logic.{◌≢◌}
 use mathlib.Core.Bool.{Bool, true}
 use mathlib.Core.List.{List, [], ◌++◌, append_assoc, append-nil}
 use native.Mathlib.Omega.{arith}
@@ -9,6 +8,7 @@ use native.Mathlib.Nat.{mod-lt}
 use lib.ListN.{length, get_or, drop, length-append, drop_of_length-le}
 use lib.Seq.{drop-nil, drop-drop, drop-append-le, drop-append-add}
 use lib.Pow.{pow_pos, shl_exact}
+use Rattle.std.specs.Prelude.{Result, Ok, Err, IsErrAnd}
 use Rattle.rules.specs.declared.Symbol.{Symbol}
 use Rattle.rules.specs.Stream.{bits_of, unpack, take_symbol}
 use Rattle.rules.specs.Stream as stream
@@ -17,19 +17,16 @@ use Rattle.rules.specs.Symbols.{told_symbol}
 use Rattle.rules.proofs.Codes.{length_bits}
 use Rattle.symbols.specs.declared.Cursor.{Cursor}
 use Rattle.symbols.specs.declared.Hand.{Hand}
-use Rattle.symbols.specs.declared.Taken.TheVariants as Taken
+use Rattle.symbols.specs.declared.Short.{Short}
+use Rattle.symbols.specs.declared.Taken.{Taken}
 use Rattle.symbols.specs.Cursors.{at_hand, CursorFits, Past, told, PastSymbol, SymbolTaken}
-use Rattle.symbols.specs.Hands.{size, whole, none, held, HandFits, Loads, Joins, Holds, InHand, Needed, Reads}
-use Rattle.symbols.proofs.Bits.{bits_drop, page_loaded, page_moved, size_range, size_grows, size_more, size_short, begins_size, whole_holds, whole_none}
-use Rattle.symbols.proofs.Hands.{length_held, none_held}
+use Rattle.symbols.specs.Hands.{size, whole, none, held, HandFits, Loads, Joins, Holds, Ahead, InHand, Needed, Reads, Grown}
+use Rattle.symbols.proofs.BitLists.{bits_drop, page_loaded, page_moved, size_range, size_grows, size_more, size_short, begins_size, whole_holds, whole_none}
+use Rattle.symbols.proofs.Hands.{length_held, none_held, head_size}
 
 -- the weight of the bit before j others, as the code shifts it
 pub weight : (j : ℕ) → j ≤ 13 → 1 * 2 ^ j % 65536 ≡ 2 ^ j
 weight j h = shl_exact 1 j 16 (omega arith) (omega arith) ∙ omega arith
-
--- the page's bits from a cursor on: those that a hand holds, then those from where it stands
-abbrev pub Ahead : Cursor → Hand → List ℕ → Type 0
-Ahead c h page = drop c.bit (unpack (drop c.at page)) ≡ held h ++ unpack (drop h.at page)
 
 pub ahead_end : (c : Cursor) (page : List ℕ) → length page ≤ c.at → Ahead c (none c.at) page
 unfolding unpack
@@ -75,11 +72,8 @@ module _ (c : Cursor) {h : Hand} {page : List ℕ} where
 
 -- a byte more in a hand
 module _ {h g : Hand} {page : List ℕ} (l : Loads 0 h g page) where
-  pub more_size : size (held h) ≤ size (held g)
+  more_size : size (held h) ≤ size (held g)
   more_size = rw l.held (size_grows (held h) (bits_of 8 (get_or page h.at 0)))
-
-  pub more_wide : size (held h) ≡ 14 → size (held g) ≡ 14
-  more_wide e = omega (arith, more_size, (size_range (held g)).1)
 
   more_needed : Needed h → h.bits < size (held h) → Needed g
   more_needed n k =
@@ -103,17 +97,32 @@ module _ {h g : Hand} {page : List ℕ} (l : Loads 0 h g page) where
       let u = r.up_to in
       record { in_hand = more_hand within r.in_hand; up_to = omega arith; longer = omega (arith, more_size, r.longer) }
 
--- a hand after bytes that the symbol needed
-pub record Grown (h g : Hand) (page : List ℕ) : Type 0 where
-  pub fits : HandFits g page
-  pub needed : Needed g
-  pub reads : (c : Cursor) → Reads c h page → Reads c g page
+-- the bits that wait tell as much in a hand
+pub head_waits : {c : Cursor} {h : Hand} {page : List ℕ} → Holds c h page → size (bits_of 24 h.head) ≡ size (bits_of c.waiting c.value)
+head_waits o = head_size o.fits ∙ ap size o.held
 
+-- a hand after bytes that the symbol needed
 pub grown_none : {h : Hand} {page : List ℕ} → HandFits h page → Needed h → Grown h h page
-grown_none f n = record { fits = f; needed = n; reads = λ c r. r }
+grown_none f n = record { fits = f; needed = n; sized = omega arith; reads = λ c r. r }
 
 pub grown_more : {h g k : Hand} {page : List ℕ} → Grown h g page → g.at < length page → g.bits < size (held g) → Loads 0 g k page → Grown h k page
-grown_more o within few l = record { fits = l.fits; needed = more_needed l o.needed few; reads = λ c r. more_reads l within (o.reads c r) }
+grown_more o within few l =
+    record { fits = l.fits; needed = more_needed l o.needed few; sized = omega (arith, o.sized, more_size l); reads = λ c r. more_reads l within (o.reads c r) }
+
+pub grown_twice : {h g k : Hand} {page : List ℕ} → Grown h g page → Grown g k page → Grown h k page
+grown_twice o p = record { fits = p.fits; needed = p.needed; sized = omega (arith, o.sized, p.sized); reads = λ c r. p.reads c (o.reads c r) }
+
+pub grown_wide : {h g : Hand} {page : List ℕ} → Grown h g page → size (held h) ≡ 14 → size (held g) ≡ 14
+grown_wide {h} {g} o e = omega (arith, o.sized, (size_range (held g)).1)
+
+-- a hand of fourteen bits that hold a w, after one byte more or two
+pub wide_twice : (h g k : Hand) → 2 ≤ h.bits → min 14 (h.bits + 8) ≤ g.bits → min 14 (g.bits + 8) ≤ k.bits → 14 ≤ k.bits
+wide_twice h g k some m n = omega arith
+
+-- that the bits run out is handed on
+pub short_told : {c : Cursor} {page : List ℕ} {e : Short} (r : Result Taken Short) → IsErrAnd r (λ y. y ≡ e) → SymbolTaken (Err e) c page → SymbolTaken r c page
+short_told (Ok x) q s = absurd q
+short_told (Err y) q s = rw q s
 
 -- the hand that a symbol is told from stands at most three bytes after the cursor, and at most two where bits wait and the cursor is at a byte's start
 module _ {c : Cursor} {h : Hand} {page : List ℕ} (n : Needed h) (r : Reads c h page) where
@@ -166,9 +175,9 @@ past_hand {c} {h} {page} r k d more most near after waiting value at bit =
 -- what the first bits at hand tell
 module _ (c : Cursor) (page : List ℕ) (bs ys : List Bool) (same : at_hand c page ≡ bs ++ ys) where
   -- too few, with k to come, and no more
-  told_short : (k : ℕ) → length bs < size bs → k + length bs ≡ size bs → ys ≡ [] → SymbolTaken (Taken.Short k) c page
+  told_short : (k : Short) → length bs < size bs → k.0 + length bs ≡ size bs → ys ≡ [] → SymbolTaken (Err k) c page
   unfolding told PastSymbol
-  told_short k l m e = record { tells = sym (rw (same, e, append-nil bs) (size_short bs k l m)); past = tt }
+  told_short k l m e = record { tells = sym (rw (same, e, append-nil bs) (size_short bs k.0 l m)); past = tt }
 
   -- a symbol of n bits, with the cursor d past it; the bits that wait are fewer if they begin a symbol
   module _ (n : ℕ) (e : size bs ≡ n) (l : n ≤ length bs) where
@@ -179,7 +188,7 @@ module _ (c : Cursor) (page : List ℕ) (bs ys : List Bool) (same : at_hand c pa
         omega (arith, q, ap size same, size_more bs ys (omega arith), length_bits c.waiting c.value)
 
     pub told_symbol_lem : (d : Cursor) (s : Symbol) → take_symbol (bs ++ ys) ≡ stream.Taken.symbol (told_symbol s) (drop n (bs ++ ys)) → Past n c d page
-        → SymbolTaken (Taken.Symbol s d) c page
+        → SymbolTaken (Ok (record { symbol = s; cursor = d })) c page
     unfolding told PastSymbol
     told_symbol_lem d s t p = record { tells = rw (p.left, same) (sym t); past = record { fits = p.fits; used = λ g. omega (arith, p.gone, waits_fewer g) } }
 
@@ -192,7 +201,7 @@ module _ {c : Cursor} {h : Hand} {page : List ℕ} (i : InHand c h page) where
   pub held_hand : h.bits ≤ length (at_hand c page)
   held_hand = rw i.same (simp length-append (omega (arith, length_held i.fits)))
 
-  pub hand_short : (k : ℕ) → h.bits < size (held h) → k + h.bits ≡ size (held h) → length page ≤ h.at → SymbolTaken (Taken.Short k) c page
+  pub hand_short : (k : Short) → h.bits < size (held h) → k.0 + h.bits ≡ size (held h) → length page ≤ h.at → SymbolTaken (Err k) c page
   unfolding unpack
   hand_short k l m e =
       let n = length_held i.fits in
@@ -200,14 +209,14 @@ module _ {c : Cursor} {h : Hand} {page : List ℕ} (i : InHand c h page) where
 
 -- the same of the bits that wait: they hold a whole symbol, or the page has none to add
 module _ {c : Cursor} {page : List ℕ} (f : CursorFits c page) where
-  pub waits_none : whole (bits_of c.waiting c.value) ≢ 1 → whole (bits_of c.waiting c.value) ≢ 2 → c.waiting < size (bits_of c.waiting c.value)
-  waits_none h k =
+  pub waits_none : whole (bits_of c.waiting c.value) ≡ 0 → c.waiting < size (bits_of c.waiting c.value)
+  waits_none e =
       let ws = bits_of c.waiting c.value in
       let n = length_bits c.waiting c.value in
-      omega (arith, whole_none ws (omega (arith, f.few)) h k)
+      omega (arith, whole_none ws (omega (arith, f.few)) e)
 
-  pub waits_short : (k : ℕ) → c.waiting < size (bits_of c.waiting c.value) → k + c.waiting ≡ size (bits_of c.waiting c.value)
-      → length page ≤ c.at → SymbolTaken (Taken.Short k) c page
+  pub waits_short : (k : Short) → c.waiting < size (bits_of c.waiting c.value) → k.0 + c.waiting ≡ size (bits_of c.waiting c.value)
+      → length page ≤ c.at → SymbolTaken (Err k) c page
   unfolding at_hand unpack
   waits_short k l m e =
       let ws = bits_of c.waiting c.value in
@@ -217,7 +226,7 @@ module _ {c : Cursor} {page : List ℕ} (f : CursorFits c page) where
 
   pub waits_symbol : (d : Cursor) (s : Symbol) (n : ℕ) → whole (bits_of c.waiting c.value) ≡ n → 1 ≤ n
       → ((bs ys : List Bool) → size bs ≡ n → n ≤ length bs → take_symbol (bs ++ ys) ≡ stream.Taken.symbol (told_symbol s) (drop n (bs ++ ys)))
-      → Past n c d page → SymbolTaken (Taken.Symbol s d) c page
+      → Past n c d page → SymbolTaken (Ok (record { symbol = s; cursor = d })) c page
   unfolding at_hand
   waits_symbol d s n e some t p =
       let ws = bits_of c.waiting c.value in

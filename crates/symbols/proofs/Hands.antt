@@ -14,7 +14,7 @@ use Rattle.symbols.specs.declared.Cursor.{Cursor}
 use Rattle.symbols.specs.declared.Hand.{Hand}
 use Rattle.symbols.specs.Cursors.{CursorFits}
 use Rattle.symbols.specs.Hands.{size, none, held, HandFits, Loads, Joins, Holds}
-use Rattle.symbols.proofs.Bits.{byte_shifted, size_zeros, number_new, number_border, number_walk}
+use Rattle.symbols.proofs.BitLists.{byte_shifted, size_zeros, number_new, number_border, number_walk}
 
 -- bits and zeros after them, as a number of 24 bits
 padded : (bs : List Bool) (k : ℕ) → length bs + k ≡ 24 → bits_of 24 (value bs * 2 ^ k) ≡ bs ++ replicate k false

@@ -1,3 +1,3 @@
-pub mod Bits
+pub mod BitLists
 pub mod Cursors
 pub mod Hands

@@ -1,13 +1,11 @@
 -- What a hand stands for: the first bits at hand as one number, the page's bits after them, and how many bits a symbol has.
-use Rattle.std.specs.Prelude.{ℕ, ◌+◌, ◌*◌, ◌-◌, ◌^◌, ◌≤◌, ◌<◌, ◌≡◌, Bool, true, false, List, [], ◌∷◌, ◌++◌, length, get_or, take, drop}
-use Rattle.rules.specs.declared.Symbol.TheVariants as symbol
-use Rattle.rules.specs.Stream.{bits_of, value, unpack}
+use Rattle.std.specs.Prelude.{ℕ, ◌+◌, ◌*◌, ◌-◌, ◌^◌, ◌≤◌, ◌<◌, ◌≡◌, Bool, true, false, List, [], ◌∷◌, ◌++◌, length, get_or, take, drop, Option, Some, None, Ok}
+use Rattle.rules.specs.Stream.{bits_of, value, unpack, code}
+use Rattle.rules.specs.Symbols.{told_symbol}
 use Rattle.symbols.specs.declared.Cursor.{Cursor}
 use Rattle.symbols.specs.declared.Hand.{Hand}
-use Rattle.symbols.specs.declared.First.{First}
-use Rattle.symbols.specs.declared.First.TheVariants as first
-use Rattle.symbols.specs.declared.Taken.TheVariants as taken
-use Rattle.symbols.specs.Cursors.{at_hand, SymbolTaken}
+use Rattle.symbols.specs.declared.Taken.{Taken}
+use Rattle.symbols.specs.Cursors.{at_hand, CursorFits, SymbolTaken}
 
 -- how many bits a symbol that begins with these has at least
 unfoldable pub size : List Bool → ℕ
@@ -59,6 +57,10 @@ pub record Holds (c : Cursor) (h : Hand) (page : List ℕ) : Type 0 where
   pub held : held h ≡ bits_of c.waiting c.value
   pub bits : h.bits ≡ c.waiting
 
+-- the page's bits from a cursor on: those that a hand holds, then those from where it stands
+abbrev pub Ahead : Cursor → Hand → List ℕ → Type 0
+Ahead c h page = drop c.bit (unpack (drop c.at page)) ≡ held h ++ unpack (drop h.at page)
+
 -- the hand h holds the first of the bits at hand at the cursor c, and those after them are the page's from where it stands
 pub record InHand (c : Cursor) (h : Hand) (page : List ℕ) : Type 0 where
   pub fits : HandFits h page
@@ -76,9 +78,15 @@ pub record Reads (c : Cursor) (h : Hand) (page : List ℕ) : Type 0 where
   pub up_to : 8 * h.at + c.waiting ≡ 8 * c.at + c.bit + h.bits
   pub longer : c.waiting < size (held h)
 
--- how a symbol begins: taken or told to be short as it is, or in a hand
-unfoldable pub Starts : First → Cursor → List ℕ → Type 0
-Starts (first.Out k) c page = SymbolTaken (taken.Short k) c page
-Starts (first.New d) c page = SymbolTaken (taken.Symbol symbol.New d) c page
-Starts (first.Border d) c page = SymbolTaken (taken.Symbol symbol.Border d) c page
-Starts (first.Is h) c page = Needed h × Reads c h page
+-- the hand g holds the bits of h and of bytes that the symbol needed
+pub record Grown (h g : Hand) (page : List ℕ) : Type 0 where
+  pub fits : HandFits g page
+  pub needed : Needed g
+  pub sized : size (held h) ≤ size (held g)
+  pub reads : (c : Cursor) → Reads c h page → Reads c g page
+
+-- the symbol is the one that the bits that wait hold whole, if they hold one, and is the next, whatever the page
+unfoldable pub WholeTaken : Option Taken → Cursor → Type 0
+WholeTaken None c = whole (bits_of c.waiting c.value) ≡ 0
+WholeTaken (Some x) c =
+    (length (code (told_symbol x.symbol)) ≡ whole (bits_of c.waiting c.value)) × ((page : List ℕ) → CursorFits c page → SymbolTaken (Ok x) c page)

@@ -1,2 +1,4 @@
 pub mod Cursors
 pub mod Hands
+pub mod Bits
+pub mod Opened

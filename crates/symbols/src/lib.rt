@@ -1,14 +1,22 @@
-// Bits and symbols: a cursor over the bits that wait and a page's bits, and taking one symbol. A look at the page may
-// be slow, so a symbol loads each byte of the page that it lies in once, and no other byte: `Hand::loaded` alone looks
-// at the page, at one byte, and is called only where the symbol has more bits than are at hand.
+// Bits and symbols: the bits at hand, which are those that wait and a page's from a cursor on, and taking one symbol. A
+// look at the page may be slow, so a symbol loads each byte of the page that it lies in once, and no other byte:
+// `Hand::loaded` alone looks at the page, at one byte, and is called only where the symbol has more bits than are at
+// hand.
 #![tactic(auto)]
 
 ghost use Rattle.std.specs.Prelude.{◌≡◌, List, ℕ, ◌+◌, ◌≤◌, ◌<◌, ◌^◌, length};
 ghost use Rattle.rules.specs.Stream.{bits_of, value};
 ghost use Rattle.symbols.specs.Cursors.{at_hand, CursorFits, Past, SymbolTaken};
-ghost use Rattle.symbols.specs.Hands.{size, whole, none, held, HandFits, Loads, Joins, Holds, InHand};
-ghost use Rattle.symbols.specs.Hands.{Needed, Reads, Starts};
+ghost use Rattle.symbols.specs.Hands.{size, whole, none, held, HandFits, Loads, Joins, Holds, Ahead, InHand};
+ghost use Rattle.symbols.specs.Hands.{Reads, WholeTaken};
+ghost use Rattle.symbols.specs.Bits.{of};
+ghost use Rattle.symbols.specs.Opened.{AtLeast, Opens};
 
+mod bits;
+mod opened;
+
+pub use bits::Bits;
+pub use opened::Opened;
 use rules::{Symbol, WalkNo};
 
 // Where taking bits stands: bits that wait from before the page, then the page from a byte and a bit of it on.
@@ -29,22 +37,16 @@ pub struct Hand {
     pub at: usize,
 }
 
-// How a symbol begins: bits ran out, with how many more could at least finish it; or those that wait hold it whole,
-// with the cursor past it; or they and those of the cursor's byte are in a hand.
+// Bits ran out: how many more could at least finish the symbol. A byte holds that, and in memory it lies beside what a
+// symbol has, not across it: so a symbol that is there costs nothing for it.
 #[derive(Clone, Copy)]
-pub enum First {
-    Out(u8),
-    New(Cursor),
-    Border(Cursor),
-    Is(Hand),
-}
+pub struct Short(pub u8);
 
-// The next symbol, with the cursor past it, or bits ran out, with how many more could at least finish it. A byte holds
-// that, and in memory it lies beside what a symbol has, not across it: so a symbol that is there costs nothing for it.
+// The next symbol, with the cursor past it.
 #[derive(Clone, Copy)]
-pub enum Taken {
-    Short(u8),
-    Symbol(Symbol, Cursor),
+pub struct Taken {
+    pub symbol: Symbol,
+    pub cursor: Cursor,
 }
 
 // Bits that wait: how many, and the number they write.
@@ -55,6 +57,17 @@ pub struct Waiting {
 }
 
 impl Hand {
+    // The hand before a byte of the page that holds no bit.
+    pub fn none(at: usize) -> Hand
+        ensures { result ≡ none at }
+    {
+        Hand {
+            bits: 0,
+            head: 0,
+            at,
+        }
+    }
+
     // How many bits the symbol has, as far as those at hand tell: N has 1, B 2 and w 14.
     pub fn size(self) -> u32
         requires { self.head < 2 ^ 24 }
@@ -72,11 +85,11 @@ impl Hand {
     }
 
     // How many more bits could at least finish the symbol.
-    pub fn missing(self) -> u8
+    pub fn missing(self) -> Short
         requires { (self.head < 2 ^ 24) × (self.bits ≤ size (bits_of 24 self.head)) }
-        ensures { result + self.bits ≡ size (bits_of 24 self.head) }
+        ensures { result.0 + self.bits ≡ size (bits_of 24 self.head) }
     {
-        (self.size() - self.bits) as u8
+        Short((self.size() - self.bits) as u8)
     }
 
     // With the page's next byte, from one of its bits on. This is the one look at the page.
@@ -118,50 +131,6 @@ impl Hand {
             bit: to % 8,
         }
     }
-
-    // The w that the bits begin with. Two of them are at hand, so two bytes more are enough.
-    pub fn take_index(self, page: &[u8]) -> Taken
-        requires { HandFits self page.now × Needed self × (size (held self) ≡ 14) }
-        ensures { (c : Cursor) → Reads c self page.now → SymbolTaken result c page.now }
-    {
-        let mut hand = self;
-        if self.bits < 14 {
-            if page.len() <= self.at {
-                return Taken::Short(self.missing());
-            }
-            hand = self.loaded(0, page);
-        }
-        if hand.bits < 14 {
-            if page.len() <= hand.at {
-                return Taken::Short(hand.missing());
-            }
-            hand = hand.loaded(0, page);
-        }
-        // before the last ten of 24 bits stand 11, which weigh 12288, and the walk number
-        let w = WalkNo((hand.head / 1024 - 12288) as u16);
-        Taken::Symbol(Symbol::Index(w), hand.past(14))
-    }
-
-    // The symbol that the bits begin with. A byte more is loaded only where the symbol has bits past those at hand.
-    pub fn take(self, page: &[u8]) -> Taken
-        requires { HandFits self page.now × Needed self }
-        ensures { (c : Cursor) → Reads c self page.now → SymbolTaken result c page.now }
-    {
-        if self.size() == 1 {
-            return Taken::Symbol(Symbol::New, self.past(1));
-        }
-        let mut hand = self;
-        if self.bits < 2 {
-            if page.len() <= self.at {
-                return Taken::Short(self.missing());
-            }
-            hand = self.loaded(0, page);
-        }
-        if hand.size() == 2 {
-            return Taken::Symbol(Symbol::Border, hand.past(2));
-        }
-        hand.take_index(page)
-    }
 }
 
 impl Cursor {
@@ -170,14 +139,7 @@ impl Cursor {
         requires { (self.at < length page.now) × (self.bit < 8) }
         ensures { Loads self.bit (none self.at) result page.now }
     {
-        let at = self.at;
-        let bit = self.bit;
-        let none = Hand {
-            bits: 0,
-            head: 0,
-            at,
-        };
-        none.loaded(bit, page)
+        Hand::none(self.at).loaded(self.bit, page)
     }
 
     // The bits that wait.
@@ -186,30 +148,11 @@ impl Cursor {
         ensures { (page : List ℕ) → CursorFits self page → Holds self result page }
     {
         let waiting = self.waiting as u32;
-        let at = self.at;
         Hand {
             bits: waiting,
             head: (self.value as u32) << (24 - waiting),
-            at,
+            at: self.at,
         }
-    }
-
-    // How many of the bits that wait are a whole symbol, if they hold one.
-    pub fn whole(self) -> u16
-        requires { (1 ≤ self.waiting) × (self.waiting ≤ 13) × (self.value < 2 ^ self.waiting) }
-        ensures { result ≡ whole (bits_of self.waiting self.value) }
-    {
-        let waiting = self.waiting;
-        let value = self.value;
-        if (value >> (waiting - 1)) % 2 == 0 {
-            return 1;
-        }
-        if 1 < waiting {
-            if (value >> (waiting - 2)) % 2 == 0 {
-                return 2;
-            }
-        }
-        0
     }
 
     // The cursor past so many of the bits that wait.
@@ -218,84 +161,158 @@ impl Cursor {
         ensures { (page : List ℕ) → CursorFits self page → Past bits self result page }
     {
         let left = self.waiting - bits;
-        let at = self.at;
-        let bit = self.bit;
         Cursor {
             waiting: left,
             value: self.value % (1u16 << left),
-            at,
-            bit,
+            at: self.at,
+            bit: self.bit,
         }
     }
 
-    // How the next symbol begins. The cursor's byte is loaded only where the bits that wait hold no whole symbol; those
-    // of a fit session never hold one.
-    pub fn first(self, page: &[u8]) -> First
-        requires { CursorFits self page.now }
-        ensures { Starts result self page.now }
+    // The symbol that the bits that wait hold whole, if they hold one: N or B.
+    pub fn whole(self) -> Option<Taken>
+        requires { (self.waiting ≤ 13) × (self.value < 2 ^ self.waiting) }
+        ensures { WholeTaken result self }
     {
-        let at = self.at;
-        if self.waiting == 0 {
-            if page.len() <= at {
-                return First::Out(1);
+        let waiting = self.waiting;
+        let value = self.value;
+        if 0 < waiting && (value >> (waiting - 1)) % 2 == 0 {
+            return Some(Taken {
+                symbol: Symbol::New,
+                cursor: self.fewer(1),
+            });
+        }
+        if 1 < waiting && (value >> (waiting - 2)) % 2 == 0 {
+            return Some(Taken {
+                symbol: Symbol::Border,
+                cursor: self.fewer(2),
+            });
+        }
+        None
+    }
+}
+
+impl<'a> Opened<'a> {
+    // With a byte more if fewer than so many bits of the symbol are at hand.
+    pub fn at_least(self, bits: u32) -> Result<Opened<'a>, Short>
+        requires { bits ≤ size (held self.hand) }
+        ensures { AtLeast bits self.entry result }
+    {
+        let hand = self.hand;
+        let page = self.page;
+        if bits <= hand.bits {
+            return Ok(self);
+        }
+        if page.len() <= hand.at {
+            return Err(hand.missing());
+        }
+        let hand = hand.loaded(0, page);
+        Ok(Opened { hand, page })
+    }
+
+    // The w that the bits begin with. Two of them are at hand, so two bytes more are enough.
+    pub fn take_index(self) -> Result<Taken, Short>
+        requires { size (held self.hand) ≡ 14 }
+        ensures { let page = self.entry.page.now in
+            (c : Cursor) → Reads c self.entry.hand page → SymbolTaken result c page }
+    {
+        let hand = self.at_least(14)?.at_least(14)?.hand;
+        // before the last ten of 24 bits stand 11, which weigh 12288, and the walk number
+        let w = WalkNo((hand.head / 1024 - 12288) as u16);
+        Ok(Taken {
+            symbol: Symbol::Index(w),
+            cursor: hand.past(14),
+        })
+    }
+
+    // The symbol that the bits begin with. A byte more is loaded only where the symbol has bits past those at hand.
+    pub fn take(self) -> Result<Taken, Short>
+        ensures { let page = self.entry.page.now in
+            (c : Cursor) → Reads c self.entry.hand page → SymbolTaken result c page }
+    {
+        if self.hand.size() == 1 {
+            return Ok(Taken {
+                symbol: Symbol::New,
+                cursor: self.hand.past(1),
+            });
+        }
+        let opened = self.at_least(2)?;
+        if opened.hand.size() == 2 {
+            return Ok(Taken {
+                symbol: Symbol::Border,
+                cursor: opened.hand.past(2),
+            });
+        }
+        opened.take_index()
+    }
+}
+
+impl<'a> Bits<'a> {
+    // The first bits of a symbol that those that wait don't hold whole: they and those of the cursor's byte.
+    pub fn opening(self) -> Result<Opened<'a>, Short>
+        requires { whole (bits_of self.cursor.waiting self.cursor.value) ≡ 0 }
+        ensures { of (Opens result) self.entry }
+    {
+        let cursor = self.cursor;
+        let page = self.page;
+        if cursor.waiting == 0 {
+            if page.len() <= cursor.at {
+                return Err(Short(1));
             }
-            return First::Is(self.here(page));
+            let hand = cursor.here(page);
+            return Ok(Opened { hand, page });
         }
-        let whole = self.whole();
-        if whole == 1 {
-            return First::New(self.fewer(1));
+        let waits = cursor.waits();
+        if page.len() <= cursor.at {
+            return Err(waits.missing());
         }
-        if whole == 2 {
-            return First::Border(self.fewer(2));
-        }
-        let waits = self.waits();
-        if page.len() <= at {
-            return First::Out(waits.missing());
-        }
-        let here = self.here(page);
-        First::Is(waits.then(here))
+        let hand = waits.then(cursor.here(page));
+        Ok(Opened { hand, page })
     }
 
-    // The symbol that the bits begin with.
-    pub fn take_symbol(self, page: &[u8]) -> Taken
-        requires { CursorFits self page.now }
-        ensures { SymbolTaken result self page.now }
+    // The symbol that the bits begin with. The cursor's byte is loaded only where the bits that wait hold no whole
+    // symbol; those of a fit session never hold one.
+    pub fn take_symbol(self) -> Result<Taken, Short>
+        ensures { of (SymbolTaken result) self.entry }
     {
-        match self.first(page) {
-            First::Out(bits) => Taken::Short(bits),
-            First::New(c) => Taken::Symbol(Symbol::New, c),
-            First::Border(c) => Taken::Symbol(Symbol::Border, c),
-            First::Is(hand) => hand.take(page),
+        if let Some(taken) = self.cursor.whole() {
+            return Ok(taken);
         }
+        self.opening()?.take()
+    }
+
+    // The bits of the cursor's byte, if the page has it.
+    pub fn byte(self) -> Hand
+        ensures { let page = self.entry.page.now in
+            HandFits result page × (result.bits ≤ 8) × Ahead self.entry.cursor result page }
+    {
+        let cursor = self.cursor;
+        if cursor.at < self.page.len() {
+            return cursor.here(self.page);
+        }
+        Hand::none(cursor.at)
     }
 
     // The bits that wait and those of the cursor's byte, if the page has it.
-    pub fn hand(self, page: &[u8]) -> Hand
-        requires { CursorFits self page.now }
-        ensures { InHand self result page.now }
+    pub fn hand(self) -> Hand
+        ensures { InHand self.entry.cursor result self.entry.page.now }
     {
-        let at = self.at;
-        let mut hand = Hand {
-            bits: 0,
-            head: 0,
-            at,
-        };
-        if at < page.len() {
-            hand = self.here(page);
+        let byte = self.byte();
+        if self.cursor.waiting != 0 {
+            return self.cursor.waits().then(byte);
         }
-        if self.waiting != 0 {
-            return self.waits().then(hand);
-        }
-        hand
+        byte
     }
 
-    // All bits that are left, of which there are at most thirteen.
-    pub fn rest(self, page: &[u8]) -> Waiting
-        requires { CursorFits self page.now × (length (at_hand self page.now) ≤ 13) }
-        ensures { let bits = at_hand self page.now in
+    // All that are left, of which there are at most thirteen.
+    pub fn rest(self) -> Waiting
+        requires { length (of at_hand self) ≤ 13 }
+        ensures { let bits = of at_hand self.entry in
             (result.bits ≡ length bits) × (result.value ≡ value bits) }
     {
-        let mut hand = self.hand(page);
+        let page = self.page;
+        let mut hand = self.hand();
+        // no `for`: the place goes on with the hand itself
         while hand.at < page.len() {
             hand = hand.loaded(0, page);
         }

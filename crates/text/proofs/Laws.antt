@@ -13,7 +13,8 @@ use Rattle.rules.specs.Lists.{scan}
 use Rattle.rules.proofs.Lists.{scan_here, scan_next, scan_end, scanned, not_both}
 use Rattle.shapes.proofs.Corners.{or_none}
 use Rattle.shapes.specs.Text.{is_blank, commented, gap, word_from, word_end, line_end}
-use Rattle.text.specs.Leaves.{stop, Fresh}
+use Rattle.text.specs.Fresh.{Fresh}
+use Rattle.text.specs.Leaves.{stop}
 
 -- a search goes on over all up to j at once
 scan_over : (f : ℕ → Bool) (k i m : ℕ) → i + m ≤ k → ((d : ℕ) → i ≤ d → d < i + m → f d ≡ false) → scan f (k - i) i ≡ scan f (k - (i + m)) (i + m)
@@ -95,12 +96,14 @@ module _ (t : List ℕ) where
   pub fresh_next : (p : ℕ) → Fresh t p → p < length t → get_or t p 0 ≢ 35 → Fresh t (p + 1)
   fresh_next p f h e = record { plain = λ l. rw add-one (comment_after p (f.plain h ∙ ne_eqb (get_or t p 0) 35 e)) }
 
+  pub fresh_feed : (p : ℕ) → get_or t p 0 ≡ 10 → Fresh t p
+  fresh_feed p e = record { plain = λ h. no_comment p e ∙ sym (ne_eqb (get_or t p 0) 35 (omega arith)) }
+
   pub fresh_line : (p : ℕ) → Fresh t (line_end t p)
   unfolding line_end
   fresh_line p =
       let s = scanned (λ k. eqb (get_or t k 0) 10) (length t - p) p in
-      let l = line_end t p in
-      record { plain = λ h. let e = eqb-true (get_or t l 0) 10 (s.passes (omega arith)) in no_comment l e ∙ sym (ne_eqb (get_or t l 0) 35 (omega arith)) }
+      record { plain = λ h. (fresh_feed (line_end t p) (eqb-true (get_or t (line_end t p) 0) 10 (s.passes (omega arith)))).plain h }
 
   pub fresh_inside : (p : ℕ) → gap t p ≡ false → Fresh t p
   unfolding gap
@@ -131,9 +134,6 @@ module _ (t : List ℕ) where
   pub record Coming (a p : ℕ) : Type 0 where
     pub fresh : Fresh t p
     pub gone : Gone (λ k. not (gap t k)) (length t) a p
-
-  pub coming_start : (a : ℕ) → Fresh t a → Coming a a
-  coming_start a f = record { fresh = f; gone = gone_start (λ k. not (gap t k)) (length t) a }
 
   module _ {a p : ℕ} (c : Coming a p) (h : p < length t) where
     pub coming_comment : (r : ℕ) → r ≡ line_end t (p + 1) → get_or t p 0 ≡ 35 → Coming a r

@@ -10,45 +10,56 @@ use lib.Dec.{eqb, leb}
 use borrow.Author.Tests.{lt-ltb, le-ltb, not-true}
 use Rattle.rules.specs.Lists.{all_below}
 use Rattle.rules.proofs.Lists.{scanned, not_both}
-use Rattle.text.specs.declared.Reading as reading
-use Rattle.text.specs.declared.Place as place
-use Rattle.text.specs.declared.Header as header
-use Rattle.text.specs.declared.Sizes.{Sizes}
 use Rattle.shapes.proofs.Corners.{or_none}
+use Rattle.std.specs.Prelude.{Result, Ok, Err}
+use Rattle.std.specs.Result.{IsErrAnd}
+use Rattle.std.proofs.lemmas.Result.{err_from_is_err_and}
+use Rattle.text.specs.declared.Malformed.{Malformed}
+use Rattle.text.specs.declared.Known.{Known}
+use Rattle.text.specs.declared.Sizes.{Sizes}
 use Rattle.shapes.specs.Text.{is_blank, commented, gap, word_from, word_end, line_end, Read, bad, good, next, provided, word, keyword, number, several, face}
-use Rattle.text.specs.Leaves.{Fresh, Inside, numeral, reading_of, place_of, header_of, counts}
-use Rattle.text.proofs.Laws.{fresh_line, comment_after}
+use Rattle.text.specs.Fresh.{Fresh}
+use Rattle.text.specs.Leaves.{Inside, numeral, told, told_of, end, counts}
+use Rattle.text.proofs.Laws.{fresh_inside, comment_after}
 
 -- what an answer says of the reading
-pub reading_bad : (x : Read ℕ) (w : ℕ) (r : reading.Reading) → r ≡ reading_of x → r ≡ reading.TheVariants.Bad w → x ≡ bad w
-unfolding reading_of
-reading_bad (bad v) w r q e = cc
-reading_bad (good v a) w r q e = let z : ◌≡◌ {A = ℕ} 0 1 = cc in absurd (omega arith)
+pub told_err : {A B : Type 0} (f : A → ℕ → B) (x : Read A) (e : Malformed) → Err e ≡ told_of f x → x ≡ bad e.0
+unfolding told_of
+told_err f (bad w) e q = cc
+told_err f (good a p) e q = cc
 
-pub reading_good : (x : Read ℕ) (v a : ℕ) (r : reading.Reading) → r ≡ reading_of x → r ≡ reading.TheVariants.Good v a → x ≡ good v a
-unfolding reading_of
-reading_good (bad w) v a r q e = let z : ◌≡◌ {A = ℕ} 0 1 = cc in absurd (omega arith)
-reading_good (good u b) v a r q e = cc
+pub record Told {A B : Type 0} (f : A → ℕ → B) (x : Read A) (v : B) : Type 0 where
+  pub what : A
+  pub after : ℕ
+  pub is : x ≡ good what after
+  pub says : v ≡ f what after
 
-pub place_bad : {A : Type 0} (x : Read A) (w : ℕ) (r : place.Place) → r ≡ place_of x → r ≡ place.TheVariants.Bad w → x ≡ bad w
-unfolding place_of
-place_bad (bad v) w r q e = cc
-place_bad (good v a) w r q e = let z : ◌≡◌ {A = ℕ} 0 1 = cc in absurd (omega arith)
+pub told_ok : {A B : Type 0} (f : A → ℕ → B) (x : Read A) (v : B) → Ok v ≡ told_of f x → Told f x v
+unfolding told_of
+told_ok f (bad w) v q = cc
+told_ok f (good a e) v q = record { what = a; after = e; is = refl; says = cc }
 
-pub place_good : {A : Type 0} (x : Read A) (p : ℕ) (r : place.Place) → r ≡ place_of x → r ≡ place.TheVariants.Good p → (a : A) × (x ≡ good a p)
-unfolding place_of
-place_good (bad w) p r q e = let z : ◌≡◌ {A = ℕ} 0 1 = cc in absurd (omega arith)
-place_good (good a b) p r q e = (a, cc)
+pub told_end : {A : Type 0} (x : Read A) (p : ℕ) → Ok p ≡ told_of end x → (a : A) × (x ≡ good a p)
+unfolding told_of
+told_end (bad w) p q = cc
+told_end (good a e) p q = (a, cc)
 
-pub header_bad : (x : Read Sizes) (w : ℕ) (r : header.Header) → r ≡ header_of x → r ≡ header.TheVariants.Bad w → x ≡ bad w
-unfolding header_of
-header_bad (bad v) w r q e = cc
-header_bad (good v a) w r q e = let z : ◌≡◌ {A = ℕ} 0 1 = cc in absurd (omega arith)
+-- and what the exit of a `?` says
+pub told_exit : {A B : Type 0} (f : A → ℕ → B) (x : Read A) (e : Malformed) (r : Result B Malformed) → IsErrAnd r (λ y. y ≡ e) → x ≡ bad e.0 → r ≡ told_of f x
+unfolding told_of
+told_exit f x e r h q = let (y, p, z) = err_from_is_err_and r h in rw (p, z, q)
 
-pub header_good : (x : Read Sizes) (o : Sizes) (r : header.Header) → r ≡ header_of x → r ≡ header.TheVariants.Good o → (p : ℕ) × (x ≡ good o p)
-unfolding header_of
-header_good (bad w) o r q e = let z : ◌≡◌ {A = ℕ} 0 1 = cc in absurd (omega arith)
-header_good (good a b) o r q e = (b, cc)
+pub exit : {A : Type 0} {x : Read A} {e : Malformed} (r : Result (Known A) Malformed) → IsErrAnd r (λ y. y ≡ e) → bad e.0 ≡ x → told r ≡ x
+exit r h q = let (y, p, z) = err_from_is_err_and r h in rw (p, z) q
+
+-- a reading and then another: 26 in the first, or what the second comes to
+pub next_err : {A B : Type 0} (x : Read A) (f : A → ℕ → Read B) (w : ℕ) → bad w ≡ x → bad w ≡ next x f
+unfolding next
+next_err x f w e = rw (← e)
+
+pub next_ok : {A B : Type 0} (x : Read A) (f : A → ℕ → Read B) (a : A) (p : ℕ) (r : Read B) → good a p ≡ x → r ≡ f a p → r ≡ next x f
+unfolding next
+next_ok x f a p r e q = rw (← e) q
 
 -- a reading and then another that comes to something
 pub record Both {A B : Type 0} (r : Read A) (f : A → ℕ → Read B) (b : B) (q : ℕ) : Type 0 where
@@ -65,10 +76,10 @@ next_good (good a p) f b q e = record { what = a; after = p; one = refl; two = e
 good_after : {A : Type 0} (a b : A) (p q : ℕ) → good a p ≡ good b q → p ≡ q
 good_after a b p q e = cc
 
-provided_good : {A : Type 0} (c : Bool) (w : ℕ) (r : Read A) (b : A) (q : ℕ) → provided c w r ≡ good b q → r ≡ good b q
+provided_bad : {A : Type 0} (c : Bool) (w : ℕ) (a : A) (e u : ℕ) → provided c w (good a e) ≡ bad u → u ≡ w
 unfolding provided
-provided_good true w r b q e = e
-provided_good false w r b q e = let z : ◌≡◌ {A = ℕ} 0 1 = cc in absurd (omega arith)
+provided_bad true w a e u q = let z : ◌≡◌ {A = ℕ} 0 1 = cc in absurd (omega arith)
+provided_bad false w a e u q = cc
 
 module _ (t : List ℕ) where
   -- where a word begins
@@ -121,6 +132,20 @@ module _ (t : List ℕ) where
           rw (numeral_end w v e (number_some p w refl h ∙ q)) (fresh_end w (word_inside p w refl h))
       go (no h) = let x = number_none p (word_from t p) refl (omega arith) in let z : ◌≡◌ {A = ℕ} 0 1 = cc in absurd (omega arith)
 
+  -- where 26 is told of a number no comment goes on
+  pub bad_fresh : (p w : ℕ) → bad w ≡ number t p → Fresh t w
+  unfolding numeral
+  bad_fresh p w e = go (dec_lt (word_from t p) (length t))
+    where
+      go : Dec (word_from t p < length t) → Fresh t w
+      go (yes h) =
+          let n = word_inside p (word_from t p) refl h in
+          rw (provided_bad _ (word_from t p) _ _ w (number_some p (word_from t p) refl h ∙ sym e)) (fresh_inside t (word_from t p) n.letter)
+      go (no h) =
+          let x = number_none p (word_from t p) refl (omega arith) in
+          let z : w ≡ word_from t p = cc in
+          record { plain = λ l. absurd (omega arith) }
+
   -- words
   pub word_none : (p w : ℕ) → w ≡ word_from t p → length t ≤ w → word t p ≡ bad w
   unfolding word provided
@@ -172,56 +197,14 @@ module _ (t : List ℕ) where
   unfolding face next
   face_good p k e q vs a b = rw (a, b)
 
-  pub face_fresh : (p e : ℕ) (vs : List ℕ) → face t p ≡ good vs e → Fresh t e
-  face_fresh p e vs q = go (number t p) refl
-    where
-      go : (x : Read ℕ) → number t p ≡ x → Fresh t e
-      go (bad w) r = let y = face_count_lem p w r in let z : ◌≡◌ {A = ℕ} 0 1 = cc in absurd (omega arith)
-      go (good k a) r = on (several (number t) k a) refl
-        where
-          on : (y : Read (List ℕ)) → several (number t) k a ≡ y → Fresh t e
-          on (bad w) s = let y = face_corner p k a w r s in let z : ◌≡◌ {A = ℕ} 0 1 = cc in absurd (omega arith)
-          on (good us b) s = let y = face_good p k a b us r s in let z : e ≡ line_end t b = cc in rw z (fresh_line t b)
-
-  -- the counts
-  pub counts_1 : (p w : ℕ) → number t p ≡ bad w → counts t p ≡ bad w
-  unfolding counts next
-  counts_1 p w a = rw a
-
-  pub counts_2 : (p v q w : ℕ) → number t p ≡ good v q → number t q ≡ bad w → counts t p ≡ bad w
-  unfolding counts next
-  counts_2 p v q w a b = rw (a, b)
-
-  pub counts_3 : (p v q f r w : ℕ) → number t p ≡ good v q → number t q ≡ good f r → number t r ≡ bad w → counts t p ≡ bad w
-  unfolding counts next
-  counts_3 p v q f r w a b c = rw (a, b, c)
-
-  pub counts_good : (p v q f r e s : ℕ) → number t p ≡ good v q → number t q ≡ good f r → number t r ≡ good e s
-      → counts t p ≡ good (record { vertices = v; faces = f; after = s }) s
-  unfolding counts next
-  counts_good p v q f r e s a b c = rw (a, b, c)
-
-  pub counts_fresh : (p s : ℕ) (o : Sizes) → counts t p ≡ good o s → Fresh t o.after
+  -- after the counts
+  pub counts_fresh : (p s : ℕ) (o : Sizes) → counts t p ≡ good o s → Fresh t s
   unfolding counts
   counts_fresh p s o q =
       let a = next_good (number t p) _ o s q in
       let b = next_good (number t a.after) _ o s a.two in
       let c = next_good (number t b.after) _ o s b.two in
-      let z : o.after ≡ c.after = sym (ap after (same (record { vertices = a.what; faces = b.what; after = c.after }) o c.after s c.two)) in
-      rw z (number_fresh b.after c.what c.after c.one)
-    where
-      after : Sizes → ℕ
-      after o = o.after
-
-      same : (x y : Sizes) (p q : ℕ) → good x p ≡ good y q → x ≡ y
-      same x y p q e = cc
-
-  pub keyword_fresh : (p w e : ℕ) → keyword t p ≡ good w e → Fresh t e
-  unfolding keyword
-  keyword_fresh p w e q =
-      let a = next_good (word t p) _ w e q in
-      let z = good_after a.what w a.after e (provided_good _ a.what (good a.what a.after) w e a.two) in
-      rw z at (word_fresh p a.what a.after a.one)
+      rw (good_after (record { vertices = a.what; faces = b.what }) o c.after s c.two) at (number_fresh b.after c.what c.after c.one)
 
 -- what holds after each reading holds after several
 pub several_keep : {A : Type 0} (read : ℕ → Read A) (P : ℕ → Type 0) → ((p e : ℕ) (x : A) → read p ≡ good x e → P e) → (n a : ℕ) → P a
@@ -243,28 +226,25 @@ several_keep {A = A} read P f (suc n) a h u xs q = go (several_keep read P f n) 
 module _ {A : Type 0} (read : ℕ → Read A) where
   pub record Reads (a n p k : ℕ) : Type 0 where
     pub up_to : k ≤ n
-    pub left : place_of (several read n a) ≡ place_of (several read (n - k) p)
-
-  pub reads_start : (a n : ℕ) → Reads a n a 0
-  reads_start a n = let e : n - 0 ≡ n = omega arith in record { up_to = omega arith; left = rw e }
+    pub left : told_of end (several read n a) ≡ told_of end (several read (n - k) p)
 
   module _ {a n p k : ℕ} (i : Reads a n p k) where
-    pub reads_bad : k < n → (w : ℕ) → read p ≡ bad w → place.TheVariants.Bad w ≡ place_of (several read n a)
-    unfolding several next place_of
+    pub reads_bad : k < n → (w : ℕ) → read p ≡ bad w → Err (record { 0 = w }) ≡ told_of end (several read n a)
+    unfolding several next told_of
     reads_bad h w e = let z : n - k ≡ suc (n - (k + 1)) = omega arith in sym (i.left ∙ rw (z, several, e))
 
     pub reads_next : k < n → (x : A) (e : ℕ) → read p ≡ good x e → Reads a n e (k + 1)
-    unfolding several next place_of
+    unfolding several next told_of
     reads_next h x e q =
         let z : n - k ≡ suc (n - (k + 1)) = omega arith in
         record { up_to = omega arith; left = i.left ∙ rw (z, several, q) (onto (several read (n - (k + 1)) e)) }
       where
-        onto : (r : Read (List A)) → place_of (next r (λ xs q. good (x ∷ xs) q)) ≡ place_of r
+        onto : (r : Read (List A)) → told_of end (next r (λ xs q. good (x ∷ xs) q)) ≡ told_of end r
         onto (bad w) = refl
         onto (good xs q) = refl
 
-    pub reads_end : n ≤ k → place.TheVariants.Good p ≡ place_of (several read n a)
-    unfolding several place_of
+    pub reads_end : n ≤ k → Ok p ≡ told_of end (several read n a)
+    unfolding several told_of
     reads_end h = let z : n - k ≡ 0 = omega arith in sym (i.left ∙ rw z)
 
 -- several readings of which there is one more

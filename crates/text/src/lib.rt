@@ -1,235 +1,222 @@
-// Leaves over the text of a face file: lines, words and numbers from a position on.
+// Leaves over the text of a face file: lines, words and numbers from a place on.
 #![tactic(auto)]
 
-ghost use Rattle.std.specs.Prelude.{◌≡◌};
+ghost use Rattle.std.specs.Prelude.{◌≡◌, IfOk};
 ghost use Rattle.shapes.specs.Text.{is_blank, line_end, word_from, word_end, word, several};
-ghost use Rattle.text.specs.Leaves.{stop, Fresh, Inside, reading_of, place_of, known_of, header_of};
+ghost use Rattle.text.specs.Leaves.{of, stop, Inside, malformed, told, ends, told_of, end, got, known_of};
 
-// What is read from a position on: 26 at a place, or a number and the position after it.
+mod place;
+
+pub use place::Place;
+use rules::{Reason, Refusal};
+
+// 26 at a place.
 #[derive(Clone, Copy)]
-pub enum Reading {
-    Bad(usize),
-    Good(u32, usize),
+pub struct Malformed(pub usize);
+
+impl From<Malformed> for Refusal<u64> {
+    ghost from_gives = { λ e r. r ≡ malformed e };
+
+    fn from(e: Malformed) -> Refusal<u64> {
+        Refusal {
+            reason: Reason::Word,
+            place: e.0 as u64,
+        }
+    }
 }
 
-// The same where no number is wanted.
+// What was read, and the place after it.
 #[derive(Clone, Copy)]
-pub enum Place {
-    Bad(usize),
-    Good(usize),
+pub struct Known<'a, T> {
+    pub value: T,
+    pub after: Place<'a>,
+}
+
+// What the header says.
+#[derive(Clone, Copy)]
+pub struct Sizes {
+    pub vertices: u32,
+    pub faces: u32,
 }
 
 // Space, tab, CR or LF.
 pub fn is_blank(b: u8) -> bool
     ensures { result ≡ is_blank b }
 {
-    if 32 < b {
-        return false;
-    }
-    if b == 32 {
-        return true;
-    }
-    if b == 9 {
-        return true;
-    }
-    if b == 13 {
-        return true;
-    }
-    b == 10
-}
-
-// The first LF from a position on, or the text's length.
-pub fn line_end(text: &[u8], at: usize) -> usize
-    ensures { result ≡ line_end text.now at }
-{
-    let mut p = at;
-    while p < text.len() {
-        if text[p] == 10 {
-            return p;
-        }
-        p += 1;
-    }
-    p
-}
-
-// The first byte of the next word, or the text's length.
-pub fn word_from(text: &[u8], at: usize) -> usize
-    requires { Fresh text.now at }
-    ensures { result ≡ word_from text.now at }
-{
-    let mut p = at;
-    while p < text.len() {
-        let b = text[p];
-        if b == 35 {
-            p = line_end(text, p + 1);
-        } else {
-            if is_blank(b) {
-                p += 1;
-            } else {
-                return p;
-            }
-        }
-    }
-    p
+    b == b' ' || b == b'\t' || b == b'\r' || b == b'\n'
 }
 
 // Does a byte end a word?
 pub fn stops(b: u8) -> bool
     ensures { result ≡ stop b }
 {
-    if 35 < b {
-        return false;
-    }
-    if b == 35 {
-        return true;
-    }
-    is_blank(b)
+    b <= 35 && (b == b'#' || is_blank(b))
 }
 
-// The position after the word that goes on at a position.
-pub fn word_end(text: &[u8], at: usize) -> usize
-    requires { Fresh text.now at }
-    ensures { result ≡ word_end text.now at }
+// The first LF from a position on, or the text's length. A comment may go on at the position, so it need be no place.
+pub fn line_end(text: &[u8], at: usize) -> Place<'_>
+    ensures place { result.at ≡ line_end text.now at }
+    ensures text { result.text ≡ text.entry }
 {
-    let mut p = at;
-    while p < text.len() {
-        if stops(text[p]) {
-            return p;
+    for p in at..text.len() {
+        if text[p] == b'\n' {
+            return Place { text, at: p };
         }
-        p += 1;
     }
-    p
+    let end = at.max(text.len());
+    Place { text, at: end }
 }
 
-// The number that begins at w, where a word begins.
-pub fn numeral(text: &[u8], w: usize) -> Reading
-    requires { Inside text.now w }
-    ensures { result ≡ reading_of (Rattle.text.specs.Leaves.numeral text.now w) }
+// The word OFF: the place after it.
+pub fn keyword(text: &[u8]) -> Result<Place<'_>, Malformed>
+    ensures place { ends result ≡ told_of end (Rattle.shapes.specs.Text.keyword text.now 0) }
+    ensures text { IfOk result (λ p. p.text ≡ text.entry) }
 {
-    let mut v: u32 = 0;
-    let mut p = w;
-    while p < text.len() {
-        let b = text[p];
-        if b < 48 {
-            if stops(b) {
-                return Reading::Good(v, p);
+    let start = Place { text, at: 0 };
+    let w = start.word_from();
+    if text.len() <= w.at {
+        return Err(Malformed(w.at));
+    }
+    let e = w.word_end();
+    if e.at - w.at == 3 && text[w.at] == b'O' && text[w.at + 1] == b'F' && text[w.at + 2] == b'F' {
+        return Ok(e);
+    }
+    Err(Malformed(w.at))
+}
+
+impl<'a> Place<'a> {
+    // The first byte of the next word, or the text's length: there 26 is told, so no Option.
+    pub fn word_from(self) -> Place<'a>
+        ensures place { result.at ≡ of word_from self.entry }
+        ensures text { result.text ≡ self.entry.text }
+    {
+        let text = self.text;
+        let mut p = self.at;
+        while p < text.len() {
+            let b = text[p];
+            if b == b'#' {
+                p = line_end(text, p + 1).at;
+            } else if is_blank(b) {
+                p += 1;
+            } else {
+                return Place { text, at: p };
             }
-            return Reading::Bad(w);
         }
-        if 9 <= p - w {
-            return Reading::Bad(w);
+        Place { text, at: p }
+    }
+
+    // Where the word that goes on here ends.
+    pub fn word_end(self) -> Place<'a>
+        ensures place { result.at ≡ of word_end self.entry }
+        ensures text { result.text ≡ self.entry.text }
+    {
+        let text = self.text;
+        for p in self.at..text.len() {
+            if stops(text[p]) {
+                return Place { text, at: p };
+            }
         }
-        if 57 < b {
-            return Reading::Bad(w);
+        let end = self.at.max(text.len());
+        Place { text, at: end }
+    }
+
+    // The number that begins here, where a word begins. Inlined, as `number` is: else each place comes back through
+    // memory, and the pass over a text takes a third longer.
+    #[inline(always)]
+    pub fn numeral(self) -> Result<Known<'a, u32>, Malformed>
+        requires { of Inside self }
+        ensures reading { told result ≡ of Rattle.text.specs.Leaves.numeral self.entry }
+        ensures text { IfOk result (λ k. k.after.text ≡ self.entry.text) }
+    {
+        let text = self.text;
+        let w = self.at;
+        let mut v: u32 = 0;
+        for p in w..text.len() {
+            let b = text[p];
+            if b < b'0' {
+                if stops(b) {
+                    return Ok(Known {
+                        value: v,
+                        after: Place { text, at: p },
+                    });
+                }
+                return Err(Malformed(w));
+            }
+            if 9 <= p - w {
+                return Err(Malformed(w));
+            }
+            if b'9' < b {
+                return Err(Malformed(w));
+            }
+            v = v * 10 + (b - b'0') as u32;
         }
-        v = v * 10 + (b - 48) as u32;
-        p += 1;
+        let after = Place {
+            text,
+            at: text.len(),
+        };
+        Ok(Known { value: v, after })
     }
-    Reading::Good(v, p)
-}
 
-// A number: a word of one to nine digits.
-pub fn number(text: &[u8], at: usize) -> Reading
-    requires { Fresh text.now at }
-    ensures { result ≡ reading_of (Rattle.shapes.specs.Text.number text.now at) }
-{
-    let w = word_from(text, at);
-    if text.len() <= w {
-        return Reading::Bad(w);
-    }
-    numeral(text, w)
-}
-
-// A number that is known to stand there, and the position after it.
-#[derive(Clone, Copy)]
-pub struct Known {
-    pub value: u32,
-    pub after: usize,
-}
-
-pub fn taken(text: &[u8], at: usize) -> Known
-    requires { Fresh text.now at }
-    ensures { result ≡ known_of (Rattle.shapes.specs.Text.number text.now at) }
-{
-    match number(text, at) {
-        Reading::Bad(w) => Known { value: 0, after: w },
-        Reading::Good(v, e) => Known { value: v, after: e },
-    }
-}
-
-// The word OFF.
-pub fn keyword(text: &[u8]) -> Place
-    ensures { result ≡ place_of (Rattle.shapes.specs.Text.keyword text.now 0) }
-{
-    let w = word_from(text, 0);
-    if text.len() <= w {
-        return Place::Bad(w);
-    }
-    let e = word_end(text, w);
-    if e - w != 3 {
-        return Place::Bad(w);
-    }
-    if text[w] != 79 {
-        return Place::Bad(w);
-    }
-    if text[w + 1] != 70 {
-        return Place::Bad(w);
-    }
-    if text[w + 2] != 70 {
-        return Place::Bad(w);
-    }
-    Place::Good(e)
-}
-
-// Words passed over.
-pub fn passed(text: &[u8], at: usize, count: u64) -> Place
-    requires { Fresh text.now at }
-    ensures { result ≡ place_of (several (word text.now) count at) }
-{
-    let mut p = at;
-    let mut k = 0;
-    while k < count {
-        let w = word_from(text, p);
-        if text.len() <= w {
-            return Place::Bad(w);
+    // A number: a word of one to nine digits.
+    #[inline(always)]
+    pub fn number(self) -> Result<Known<'a, u32>, Malformed>
+        ensures reading { told result ≡ of Rattle.shapes.specs.Text.number self.entry }
+        ensures text { IfOk result (λ k. k.after.text ≡ self.entry.text) }
+    {
+        let w = self.word_from();
+        if self.text.len() <= w.at {
+            return Err(Malformed(w.at));
         }
-        p = word_end(text, w);
-        k += 1;
+        w.numeral()
     }
-    Place::Good(p)
-}
 
-// What the header says, and the position after it.
-#[derive(Clone, Copy)]
-pub struct Sizes {
-    pub vertices: u32,
-    pub faces: u32,
-    pub after: usize,
-}
-
-#[derive(Clone, Copy)]
-pub enum Header {
-    Bad(usize),
-    Good(Sizes),
-}
-
-// The counts of vertices, faces and edges.
-pub fn counts(text: &[u8], at: usize) -> Header
-    requires { Fresh text.now at }
-    ensures { result ≡ header_of (Rattle.text.specs.Leaves.counts text.now at) }
-{
-    match number(text, at) {
-        Reading::Bad(w) => Header::Bad(w),
-        Reading::Good(v, p) => match number(text, p) {
-            Reading::Bad(w) => Header::Bad(w),
-            Reading::Good(f, q) => match number(text, q) {
-                Reading::Bad(w) => Header::Bad(w),
-                Reading::Good(_, r) => Header::Good(Sizes {
-                    vertices: v,
-                    faces: f,
-                    after: r,
-                }),
+    // A number that is known to stand here.
+    pub fn taken(self) -> Known<'a, u32>
+        ensures number { got result ≡ known_of (of Rattle.shapes.specs.Text.number self.entry) }
+        ensures text { result.after.text ≡ self.entry.text }
+    {
+        match self.number() {
+            Ok(k) => k,
+            Err(e) => Known {
+                value: 0,
+                after: Place {
+                    text: self.text,
+                    at: e.0,
+                },
             },
-        },
+        }
+    }
+
+    // Words passed over: the place after them.
+    pub fn passed(self, count: u64) -> Result<Place<'a>, Malformed>
+        ensures place { ends result ≡ told_of end (several (word self.entry.text.now) count self.entry.at) }
+        ensures text { IfOk result (λ p. p.text ≡ self.entry.text) }
+    {
+        let mut p = self;
+        for _ in 0..count {
+            let w = p.word_from();
+            if self.text.len() <= w.at {
+                return Err(Malformed(w.at));
+            }
+            p = w.word_end();
+        }
+        Ok(p)
+    }
+
+    // The counts of vertices, faces and edges.
+    pub fn counts(self) -> Result<Known<'a, Sizes>, Malformed>
+        ensures reading { told result ≡ of Rattle.text.specs.Leaves.counts self.entry }
+        ensures text { IfOk result (λ k. k.after.text ≡ self.entry.text) }
+    {
+        let vertices = self.number()?;
+        let faces = vertices.after.number()?;
+        let edges = faces.after.number()?;
+        Ok(Known {
+            value: Sizes {
+                vertices: vertices.value,
+                faces: faces.value,
+            },
+            after: edges.after,
+        })
     }
 }

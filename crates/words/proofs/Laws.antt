@@ -1,12 +1,14 @@
--- Laws of a text put into a room: none, one byte more, one text after another, a row of them. Rests on nothing.
-use Prim.Native.Nat.{ℕ, zero, suc, ◌+◌, ◌*◌, ◌-◌, ◌≤◌, ◌<◌}
+-- Laws of a text put into a room: none, a word, one text after another, a row of them. Rests on nothing.
+use Prim.Native.Nat.{ℕ, ◌+◌, ◌*◌, ◌-◌, ◌≤◌}
 use mathlib.Core.Path.{◌≡◌, refl, ap, sym, ◌∙◌}
-use mathlib.Core.List.{List, [], ◌∷◌, ◌++◌, append_assoc, append-nil}
+use mathlib.Core.List.{List, [], ◌++◌, append_assoc, append-nil}
 use native.Mathlib.Omega.{arith}
 use native.Mathlib.Nat.{min-eq_left}
 use native.Mathlib.Numerals.{add-one}
-use lib.ListN.{length, get_or, take, drop, set, length-append, length-set, length-take, take-append-drop}
-use lib.Seq.{take-suc, take-suc-set, take-length, drop-drop}
+use lib.ListN.{length, take, drop, length-append, length-take, length-drop, take-append-drop}
+use lib.Seq.{drop-drop}
+use borrow.Rule.Slice.PartMut.{put_mid, post_of}
+use Rattle.std.proofs.lemmas.Slice.{take-put_mid, drop-put_mid}
 use Rattle.io.specs.Counts.{IsPrefixLen}
 use Rattle.words.specs.Room.{TextPut, begun}
 use Rattle.words.specs.Words.{each}
@@ -14,15 +16,17 @@ use Rattle.words.specs.Words.{each}
 pub wrote_none : (out : List ℕ) (at r : ℕ) → r ≡ at → TextPut out at [] out r
 wrote_none out at r e = record { ends = omega arith; room = refl; text = rw e (sym (append-nil (take at out))); past = refl }
 
--- what stands after an entry does not depend on it
-drop_set : (l : List ℕ) (i x : ℕ) → drop (i + 1) (set l i x) ≡ drop (i + 1) l
-drop_set l i x = rw add-one (go l i)
-  where
-    go : (l : List ℕ) (i : ℕ) → drop (suc i) (set l i x) ≡ drop (suc i) l
-    go [] zero = refl
-    go [] (suc i) = refl
-    go (y ∷ l) zero = refl
-    go (y ∷ l) (suc i) = go l i
+-- a word that was copied into the room
+pub wrote_word : (out w v : List ℕ) (at : ℕ) → v ≡ w → at + length w ≤ length out
+    → TextPut out at w (put_mid at (at + length w - at) out v) (at + length w)
+wrote_word out w v at e h =
+    let k : length w ≡ at + length w - at = omega arith in
+    rw e (record {
+      ends = refl;
+      room = simp (length-append, post_of, length-take, length-drop) (omega arith);
+      text = take-put_mid at _ out w (at + length w) refl (omega arith);
+      past = drop-put_mid at _ out w (at + length w) (omega arith) (omega arith) k;
+    })
 
 module _ {out : List ℕ} {at : ℕ} {w o : List ℕ} {r : ℕ} (p : TextPut out at w o r) where
   -- past the text, and so past any later place, the room is as it was
@@ -30,14 +34,6 @@ module _ {out : List ℕ} {at : ℕ} {w o : List ℕ} {r : ℕ} (p : TextPut out
   further q h =
       let e : q ≡ r + (q - r) = omega arith in
       rw (e, ← drop-drop (q - r) r o, ← drop-drop (q - r) r out) (ap (λ (l : List ℕ). drop (q - r) l) p.past)
-
-  pub wrote_next : (x q : ℕ) → q ≡ r + 1 → r < length o → TextPut out at (w ++ (x ∷ [])) (set o r x) q
-  wrote_next x q e h = record {
-    ends = simp length-append (omega (arith, p.ends));
-    room = simp length-set p.room;
-    text = rw (e, add-one) (take-suc-set o r x h ∙ (ap (λ (l : List ℕ). l ++ (x ∷ [])) p.text ∙ append_assoc (take at out) w (x ∷ [])));
-    past = rw e (drop_set o r x ∙ further (r + 1) (omega arith));
-  }
 
   pub wrote_then : {v o' : List ℕ} {q : ℕ} → TextPut o r v o' q → TextPut out at (w ++ v) o' q
   wrote_then {v} {o'} {q} s = record {
@@ -55,13 +51,6 @@ module _ {out : List ℕ} {at : ℕ} {w o : List ℕ} {r : ℕ} (p : TextPut out
     text = p.text ∙ ap (λ (l : List ℕ). take at out ++ l) e;
     past = p.past;
   }
-
--- one byte more of a word
-pub take_more : (l : List ℕ) (i : ℕ) → i < length l → take i l ++ (get_or l i 0 ∷ []) ≡ take (i + 1) l
-take_more l i h = rw add-one (sym (take-suc l i 0 h))
-
-pub take_all : (l : List ℕ) (i : ℕ) → i ≡ length l → take i l ≡ l
-take_all l i e = rw e (take-length l)
 
 -- one text more
 pub each_more : (k : ℕ) (f : ℕ → List ℕ) → each (k + 1) f ≡ each k f ++ f k

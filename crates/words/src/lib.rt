@@ -1,4 +1,7 @@
-// Words and numbers, put into a lent room.
+// Words and numbers, put into a lent room, by hand: a listing's `put` always answers, and allocates nothing. By `Display`
+// and `write!` its text is promised only where `fmt` answers Ok, and no clause can say that it fails only where its
+// writer does. Room and place are passed apart: a struct that holds the room would itself be lent at each call, which
+// is no plainer.
 #![tactic(auto)]
 
 ghost use Rattle.std.specs.Prelude.{◌++◌, ◌+◌, ◌≤◌, length};
@@ -10,12 +13,9 @@ pub fn put(out: &mut [u8], at: usize, word: &[u8]) -> usize
     requires { at + length word.now ≤ length out.old }
     ensures { TextPut out.old at word.now out.new result }
 {
-    let mut i = 0;
-    while i < word.len() {
-        out[at + i] = word[i];
-        i += 1;
-    }
-    at + i
+    let end = at + word.len();
+    out[at..end].copy_from_slice(word);
+    end
 }
 
 // A number in decimal digits, 20 at most.
@@ -57,8 +57,7 @@ pub fn put_pair(out: &mut [u8], at: usize, word: &[u8], n: u64, next: &[u8], m: 
     ensures upper_bound { result ≤ at + (length word.now + length next.now + 43) }
 {
     let first = put_named(out, at, word, n);
-    let second = put_named(out, first, next, m);
-    put(out, second, b"\n")
+    put_line(out, first, next, m)
 }
 
 // A line of a word and a number.

@@ -1,63 +1,60 @@
 -- The writer beside the replay: what is put is the code of the symbols so far, which begin those of the whole walk. Rests on the replay's Replays and the
 -- pen's Laws.
-use Prim.Native.Nat.{ℕ, ◌+◌, ◌≤◌, ◌<◌}
+use Prim.Native.Nat.{ℕ, ◌+◌, ◌*◌, ◌-◌, ◌≤◌, ◌<◌}
 use mathlib.Core.Path.{◌≡◌, ap, sym, ◌∙◌}
 use mathlib.Core.Bool.{true, false}
 use mathlib.Core.List.{List, [], ◌∷◌, ◌++◌, append-nil}
 use native.Mathlib.Omega.{arith}
 use lib.ListN.{length, get_or, length-append}
+use Rattle.std.specs.Prelude.{Option, Some, None, IfSome}
 use Rattle.rules.specs.declared.Form.{Form}
 use Rattle.rules.specs.Map.{by_dart, Limits, Valid}
 use Rattle.rules.specs.declared.Symbol as rules
 use Rattle.rules.specs.declared.Symbol.TheVariants.{New, Border, Index}
 use Rattle.rules.specs.Symbols.{told_symbol}
-use Rattle.rules.specs.Walk.{symbols_of}
+use Rattle.rules.specs.Lists.{sum}
+use Rattle.rules.specs.Walk.{enough, symbols_of}
 use Rattle.rules.specs.Stream.{code, codes}
 use Rattle.rules.specs.Inner.{gone, bound, Emptied, Lowest, body_due}
 use Rattle.rules.proofs.Runs.{codes_append}
 use Rattle.rules.proofs.Streams.{symbols_few}
 use Rattle.walk.specs.Numbers.{positions_after}
 use Rattle.walk.specs.Standing.{ahead}
-use Rattle.walk.proofs.Walking.{Rooted, inv_now}
-use Rattle.replay.specs.declared.Yield.{Yield}
-use Rattle.replay.specs.declared.Yield.TheVariants.{Nothing, One}
+use Rattle.walk.proofs.Walking.{Rooted, inv_now, walking_less}
 use Rattle.replay.specs.declared.Replayed.{Replayed}
-use Rattle.replay.specs.Replays.{writes_in, replayed_in, told, NumberedFrom}
+use Rattle.replay.specs.Replays.{writes_in, replayed_in, told, AtHead, NumberedFrom}
 use Rattle.replay.proofs.Finished.{rooted_by}
-use Rattle.replay.proofs.Replays.{index_below, count_later, replay_starts, replay_ends, replay_begins, replay_goes}
+use Rattle.replay.proofs.Replays.{index_below, count_later, replay_starts, replay_served, replay_ends, replay_begins, replay_goes}
 use Rattle.pen.specs.declared.Pen.{Pen}
 use Rattle.pen.specs.Pens.{PenFits, Put, IndexFits}
 use Rattle.pen.proofs.Laws.{put_none, put_both}
-use Rattle.writer.specs.Yields.{YieldFits}
-use Rattle.writer.specs.Written.{Writing, WentOn}
+use Rattle.writer.specs.Written.{Writing, Underway, WentOn}
 
 -- what a step yields, over what the calls answered
-pub put_nothing : {s : Yield} → s ≡ Nothing → (start : ℕ) (pen : Pen) (out : List ℕ) → Put (codes (told s)) start pen pen out out
+pub put_nothing : {s : Option rules.Symbol} → s ≡ None → (pen : Pen) → Put (codes (told s)) pen pen
 unfolding codes
-put_nothing e start pen out = rw e (put_none start pen out)
+put_nothing e pen = rw e (put_none pen)
 
-pub put_one : {s : Yield} (x : rules.Symbol) → s ≡ One x → {start : ℕ} {p r : Pen} {o o' : List ℕ} → Put (code (told_symbol x)) start p r o o'
-    → Put (codes (told s)) start p r o o'
+pub put_one : {s : Option rules.Symbol} (x : rules.Symbol) → s ≡ Some x → {p r : Pen} → Put (code (told_symbol x)) p r → Put (codes (told s)) p r
 unfolding codes
 put_one x e u = rw (e, append-nil) u
 
-pub one_fits : {s : Yield} (x : rules.Symbol) → s ≡ One x → YieldFits s → IndexFits x
+pub one_fits : {s : Option rules.Symbol} (x : rules.Symbol) → s ≡ Some x → IfSome s IndexFits → IndexFits x
 one_fits x e h = rw e at h
 
 -- a number that is written fits its code
-pub yield_fits : (N n : ℕ) (t work : List ℕ) (c j p : ℕ) → c ≤ 4096 → (s : Yield) → s ≡ writes_in by_dart N n t work c j p → YieldFits s
-yield_fits N n t work c j p h Nothing e = tt
-yield_fits N n t work c j p h (One New) e = tt
-yield_fits N n t work c j p h (One Border) e = tt
-yield_fits N n t work c j p h (One (Index x)) e = omega (arith, index_below N n t work c j p x (sym e))
+pub yield_fits : (N n : ℕ) (t work : List ℕ) (c j p : ℕ) → c ≤ 4096 → (s : Option rules.Symbol) → s ≡ writes_in by_dart N n t work c j p → IfSome s IndexFits
+yield_fits N n t work c j p h None e = tt
+yield_fits N n t work c j p h (Some New) e = tt
+yield_fits N n t work c j p h (Some Border) e = tt
+yield_fits N n t work c j p h (Some (Index x)) e = omega (arith, index_below N n t work c j p x (sym e))
 
-module _ {F : Form} {N n : ℕ} {m : List ℕ} {root : ℕ} (P : Rooted N n m root) {work : List ℕ} (Q : NumberedFrom F N n m root work) {start : ℕ} {pen : Pen}
-    {out : List ℕ} where
-  pub writing_starts : Writing F N n m root 1 (0 ∷ 0 ∷ 0 ∷ 0 ∷ 0 ∷ 0 ∷ 0 ∷ []) start pen pen out out
+module _ {F : Form} {N n : ℕ} {m : List ℕ} {root : ℕ} (P : Rooted N n m root) {work : List ℕ} (Q : NumberedFrom F N n m root work) {pen : Pen} where
+  pub writing_starts : Writing F N n m root 1 (0 ∷ 0 ∷ 0 ∷ 0 ∷ 0 ∷ 0 ∷ 0 ∷ []) pen pen
   unfolding codes
-  writing_starts = record { symbols = []; replaying = replay_starts P Q; put = put_none start pen out }
+  writing_starts = record { symbols = []; replaying = replay_starts P Q; put = put_none pen }
 
-  module _ {c : ℕ} {ps : List ℕ} {r : Pen} {o : List ℕ} (W : Writing F N n m root c ps start pen r out o) where
+  module _ {c : ℕ} {ps : List ℕ} {r : Pen} (W : Writing F N n m root c ps pen r) where
     -- the pen has room for the next code
     pub writing_fits : PenFits 401422 pen → PenFits 14 r
     writing_fits h =
@@ -75,17 +72,17 @@ module _ {F : Form} {N n : ℕ} {m : List ℕ} {root : ℕ} (P : Rooted N n m ro
         omega (arith, E.lower 0 h)
 
     -- the end, where all queues are empty and no body is due: all symbols were put
-    pub writing_ends : (j : ℕ) → Emptied c ps j → N < j → body_due F N n j c ≡ false → Put (codes (symbols_of F by_dart N n m root)) start pen r out o
+    pub writing_ends : (j : ℕ) → Emptied c ps j → N < j → body_due F N n j c ≡ false → Put (codes (symbols_of F by_dart N n m root)) pen r
     writing_ends j E h r = rw (← replay_ends P Q W.replaying j E h r) W.put
 
     -- where one is due, it begins and nothing is put
-    pub writing_begins : (j : ℕ) → Emptied c ps j → N < j → body_due F N n j c ≡ true → Writing F N n m root (c + 1) ps start pen r out o
+    pub writing_begins : (j : ℕ) → Emptied c ps j → N < j → body_due F N n j c ≡ true → Writing F N n m root (c + 1) ps pen r
     writing_begins j E h d = record { symbols = W.symbols; replaying = replay_begins P Q W.replaying j E h d; put = W.put }
 
     -- a turn at the lowest queue that isn't empty, over what its calls answered
     pub writing_goes : (j : ℕ) → Lowest N c ps j → (k : Replayed) → k ≡ replayed_in by_dart N n m work c j (get_or ps j 0) → {ps' : List ℕ}
         → ps' ≡ positions_after j ps
-        → {q : Pen} {o' : List ℕ} → Put (codes (told k.written)) start r q o o' → Writing F N n m root k.count ps' start pen q out o'
+        → {q : Pen} → Put (codes (told k.written)) r q → Writing F N n m root k.count ps' pen q
     writing_goes j e k ek ep u =
         let s = writes_in by_dart N n m work c j (get_or ps j 0) in
         let x = rw ek at u in
@@ -93,15 +90,36 @@ module _ {F : Form} {N n : ℕ} {m : List ℕ} {root : ℕ} (P : Rooted N n m ro
         rw (ek, ep) (record { symbols = W.symbols ++ told s; replaying = replay_goes P Q W.replaying j e; put = put' })
 
 -- a body is gone through from wherever the writer stood
-pub went_none : (N n : ℕ) (m work : List ℕ) (c : ℕ) (ps : List ℕ) (start : ℕ) (pen : Pen) (out : List ℕ) → WentOn N n m work c ps start pen out c ps pen out
-went_none N n m work c ps start pen out = record { writing = λ F root first lent Q W. W; grows = omega arith }
+pub went_none : (N n : ℕ) (m work : List ℕ) (c : ℕ) (ps : List ℕ) (pen : Pen) → WentOn N n m work c ps pen c ps pen
+went_none N n m work c ps pen = record { writing = λ F root first Q W. W; grows = omega arith }
 
-module _ {N n : ℕ} {m : List ℕ} (L : Limits N n m) (A : Valid by_dart N n m) {start c0 c : ℕ} {work ps0 ps out0 out : List ℕ} {pen0 pen : Pen}
-    (W : WentOn N n m work c0 ps0 start pen0 out0 c ps pen out) where
+module _ {N n : ℕ} {m : List ℕ} (L : Limits N n m) (A : Valid by_dart N n m) {c0 c : ℕ} {work ps0 ps : List ℕ} {pen0 pen : Pen}
+    (W : WentOn N n m work c0 ps0 pen0 c ps pen) where
   pub went_goes : (j : ℕ) → Lowest N c ps j → (k : Replayed) → k ≡ replayed_in by_dart N n m work c j (get_or ps j 0) → {ps' : List ℕ}
       → ps' ≡ positions_after j ps
-      → {q : Pen} {o' : List ℕ} → Put (codes (told k.written)) start pen q out o' → WentOn N n m work c0 ps0 start pen0 out0 k.count ps' q o'
+      → {q : Pen} → Put (codes (told k.written)) pen q → WentOn N n m work c0 ps0 pen0 k.count ps' q
   went_goes j e k ek ep u = record {
-    writing = λ F root first lent Q Y. writing_goes (rooted_by L A Q) Q (W.writing F root first lent Q Y) j e k ek ep u;
+    writing = λ F root first Q Y. writing_goes (rooted_by L A Q) Q (W.writing F root first Q Y) j e k ek ep u;
     grows = omega (arith, W.grows, count_later N n m work c j (get_or ps j 0) k ek);
   }
+
+  -- over a numbering, along which the writer stands where it has come to
+  module _ (U : Underway N n m work c0 ps0 pen0) where
+    rooted_on : Rooted N n m U.root
+    rooted_on = rooted_by L A U.numbered
+
+    stands : Writing U.form N n m U.root c ps U.first pen
+    stands = W.writing U.form U.root U.first U.numbered U.writing
+
+    pub went_fits : PenFits 14 pen
+    went_fits = writing_fits rooted_on U.numbered stands U.room
+
+    pub went_left : (j : ℕ) → Emptied c ps j → 0 < j → get_or ps 0 0 ≡ c
+    went_left = all_left rooted_on U.numbered stands
+
+    module _ (j : ℕ) (e : Lowest N c ps j) where
+      pub went_served : 2 * n ≤ length work → AtHead n work c (get_or ps j 0)
+      went_served = replay_served rooted_on U.numbered stands.replaying j e
+
+      pub went_less : {ps' : List ℕ} → ps' ≡ positions_after j ps → enough N n - sum ps' < enough N n - sum ps
+      went_less = walking_less rooted_on stands.replaying.walking j e

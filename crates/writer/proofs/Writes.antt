@@ -2,39 +2,42 @@
 use Prim.Native.Nat.{ℕ, ◌+◌, ◌*◌, ◌-◌, ◌≤◌, ◌<◌, ◌^◌, min}
 use mathlib.Core.Path.{◌≡◌, refl, ap, sym, ◌∙◌}
 use mathlib.Core.Logic.{◌≢◌}
+use Rattle.rules.specs.declared.CheckAnswer.{CheckAnswer}
 use mathlib.Core.Bool.{Bool}
 use mathlib.Core.List.{List, [], ◌++◌}
 use native.Mathlib.Omega.{arith}
 use lib.ListN.{length, take, drop, length-append, length-take, length-drop, drop_of_length-le}
 use lib.Seq.{take-nil}
 use borrow.Author.Tests.{lt-ltb, le-ltb}
-use Rattle.rules.specs.declared.CheckAnswer.{CheckAnswer}
+use Rattle.std.specs.Borrow.{MutBor}
+use Rattle.std.specs.Prelude.{Result, Ok, Err, MatchResult}
+use Rattle.rules.specs.declared.WriteAnswer.{WriteAnswer}
+use Rattle.rules.specs.declared.Refusal.{Refusal}
 use Rattle.pen.specs.declared.Pen.{Pen}
 use Rattle.rules.specs.declared.Form.{Form}
 use Rattle.rules.specs.declared.Form.TheVariants.{One, Several}
 use Rattle.rules.specs.Bodies.{first_bits, Wanted}
 use Rattle.rules.specs.Map.{by_dart, Valid, Limits}
 use Rattle.rules.specs.Walk.{symbols_of}
-use Rattle.rules.specs.Check.{Verdict, refuse_if, verdict, work_after, check_answer_of, check_answer, check_work}
+use Rattle.rules.specs.Check.{Verdict, fine, refused, refuse_if, verdict, work_after, check_answer_of, check_answer, check_work}
 use Rattle.rules.specs.Stream.{bits_of, codes, header, filled}
 use Rattle.rules.specs.Writing.{stream, page_of, start_verdict, write_verdict, page_after, write_answer_of, write_page, write_answer, write_out}
 use Rattle.rules.proofs.Check.{wanted_rooted, refused_some, fine_passes}
 use Rattle.rules.proofs.Codes.{length_bits}
 use Rattle.rules.proofs.Streams.{filled_length, symbols_few, stream_longest}
-use Rattle.pen.specs.Pens.{penned, PenFits, Holds, Put}
+use Rattle.pen.specs.Pens.{blank_pen, penned, PenFits, Holds, Put}
 use Rattle.pen.proofs.Laws.{put_both, holds_start}
 use Rattle.replay.specs.Replays.{NumberedFrom}
+use Rattle.writer.specs.Written.{answer_by}
 
--- a pen that has put nothing, and room for the bits that come after bits
-abbrev pub blank_pen : Pen
-blank_pen = record { at = 0; bits = 0; value = 0 }
-
-pub put_fits : {bs : List Bool} {from : ℕ} {p : Pen} {o o' : List ℕ} → Put bs from blank_pen p o o' → (k : ℕ) → length bs + k < 2 ^ 64 → PenFits k p
-put_fits u k h = u.fits k (record { room = omega arith; in_byte = omega arith; holds = omega arith })
+-- room for the bits that come after the first of a stream
+pub put_fits : {bs : List Bool} {start : ℕ} {lent : MutBor (List ℕ)} {first p : Pen} → first ≡ blank_pen start lent → Put bs first p → (k : ℕ)
+    → length bs + k < 2 ^ 64 → PenFits k p
+put_fits e u k h = u.fits k (rw e (record { room = omega arith; in_byte = omega arith; holds = omega arith }))
 
 -- the header, and the whole stream before its fill
-pub put_header : (F : Form) (N n : ℕ) {v from : ℕ} {p q r : Pen} {o o' o'' : List ℕ} → v ≡ first_bits F N → Put (bits_of 4 v) from p q o o'
-    → Put (bits_of 12 (n - 1)) from q r o' o'' → Put (header F N n) from p r o o''
+pub put_header : (F : Form) (N n : ℕ) {v : ℕ} {p q r : Pen} → v ≡ first_bits F N → Put (bits_of 4 v) p q → Put (bits_of 12 (n - 1)) q r
+    → Put (header F N n) p r
 unfolding header
 put_header F N n e a b = put_both (rw e at a) b
 
@@ -51,8 +54,8 @@ header_length F N n = omega (arith, length-append (bits_of 4 (first_bits F N)) (
 unfoldable pub stream_bits : Form → ℕ → ℕ → List ℕ → ℕ → List Bool
 stream_bits F N n t root = header F N n ++ codes (symbols_of F by_dart N n t root)
 
-pub put_stream : (F : Form) (N n : ℕ) (t : List ℕ) (root : ℕ) {from : ℕ} {p q r : Pen} {o o' o'' : List ℕ} → Put (header F N n) from p q o o'
-    → Put (codes (symbols_of F by_dart N n t root)) from q r o' o'' → Put (stream_bits F N n t root) from p r o o''
+pub put_stream : (F : Form) (N n : ℕ) (t : List ℕ) (root : ℕ) {p q r : Pen} → Put (header F N n) p q
+    → Put (codes (symbols_of F by_dart N n t root)) q r → Put (stream_bits F N n t root) p r
 unfolding stream_bits
 put_stream F N n t root a b = put_both a b
 
@@ -63,65 +66,105 @@ stream_bits_lem F N n t root h6 hn hr A =
     omega (arith, length-append (header F N n) (codes (symbols_of F by_dart N n t root)), header_length F N n, symbols_few F by_dart N n t root h6 hn hr A)
 
 -- the page of a whole stream, as the pen leaves it, and its length, as the pen tells it
-pub pen_length : {bs : List Bool} {start : ℕ} {out0 : List ℕ} {pen : Pen} {out : List ℕ} → Holds bs start out0 pen out
+pub pen_length : {bs : List Bool} {out0 : List ℕ} {pen : Pen} → Holds bs out0 pen
     → (0 < pen.bits → pen.at + 1 ≡ length (filled bs)) × (pen.bits ≡ 0 → pen.at ≡ length (filled bs))
 pen_length {bs} H = let q = filled_length bs in let a = H.at in let b = H.bits in (λ h. omega arith, λ h. omega arith)
 
-module _ (F : Form) (N n : ℕ) (t : List ℕ) (root : ℕ) {from : ℕ} {p : Pen} {o o' : List ℕ} (u : Put (stream_bits F N n t root) from blank_pen p o o') where
-  pub emitted : (out : List ℕ) → ((bs : List Bool) (out0 : List ℕ) → Holds bs from out0 p o' → out ≡ penned (filled bs) from out0)
-      → out ≡ penned (stream F by_dart N n t root) from o
-  unfolding stream stream_bits
-  emitted out f = f (header F N n ++ codes (symbols_of F by_dart N n t root)) o (u.holds [] o (holds_start from o))
+module _ (F : Form) (N n : ℕ) (t : List ℕ) (root : ℕ) {start : ℕ} {lent : MutBor (List ℕ)} {first p : Pen} (e : first ≡ blank_pen start lent)
+    (u : Put (stream_bits F N n t root) first p) where
+  held : Holds (stream_bits F N n t root) lent.now p
+  held = u.holds [] lent.now (rw e (holds_start start lent))
 
-  pub emitted_length : (r : ℕ) → ((bs : List Bool) (start : ℕ) (out0 out : List ℕ) → Holds bs start out0 p out → r ≡ length (filled bs))
-      → r ≡ length (stream F by_dart N n t root)
+  pub emitted : (out : List ℕ) → ((bs : List Bool) (out0 : List ℕ) → Holds bs out0 p → out ≡ penned (filled bs) p.start out0)
+      → out ≡ penned (stream F by_dart N n t root) start lent.now
   unfolding stream stream_bits
-  emitted_length r f = f (header F N n ++ codes (symbols_of F by_dart N n t root)) from o o' (u.holds [] o (holds_start from o))
+  emitted out f = rw (← (u.start ∙ ap (λ (x : Pen). x.start) e)) (f (stream_bits F N n t root) lent.now held)
 
+  pub emitted_length : (r : ℕ) → ((bs : List Bool) (out0 : List ℕ) → Holds bs out0 p → r ≡ length (filled bs)) → r ≡ length (stream F by_dart N n t root)
+  unfolding stream stream_bits
+  emitted_length r f = f (stream_bits F N n t root) lent.now held
+
+module _ (F : Form) (N n root : ℕ) (t work : List ℕ) where
+  -- the check's refusals
+  pub written_refused : {nr p : ℕ} → refused nr p ≡ verdict F by_dart N n root t (length work) → (from : ℕ) (out : List ℕ)
+      → (record { number = nr; place = p; written = 0; length = 0 } ≡ write_answer F by_dart N n root from t work out)
+      × (out ≡ write_out F by_dart N n root from t work out)
+  unfolding write_answer write_out write_page write_verdict start_verdict page_after write_answer_of
+  written_refused v from out = rw (← v) ((refl, refl))
+
+  module _ (h : verdict F by_dart N n root t (length work) ≡ fine) where
+    -- what the check has found
+    pub written_limits : Limits N n t × Valid by_dart N n t × Wanted F by_dart N n t root × (2 * n ≤ length work)
+    written_limits = let P = fine_passes F by_dart N n root t (length work) h in (P.limits, P.valid, P.bodies, P.work)
+
+    -- a stream is not long
+    pub written_longest : length (stream F by_dart N n t root) ≤ 50178
+    written_longest = let (L, A, C, w) = written_limits in stream_longest F by_dart N n t root L.dims.1 L.darts.1 (wanted_rooted F by_dart N n t root C) A
+
+    -- 10: no byte of the stream falls into the page
+    pub written_late : (from l : ℕ) (out out' : List ℕ) → l ≡ length (stream F by_dart N n t root) → l < from
+        → out' ≡ penned (stream F by_dart N n t root) from out
+        → (record { number = 10; place = l; written = 0; length = 0 } ≡ write_answer F by_dart N n root from t work out)
+        × (out' ≡ write_out F by_dart N n root from t work out)
+    unfolding write_answer write_out write_page write_verdict start_verdict page_after write_answer_of refuse_if penned page_of
+    written_late from l out out' e q eo =
+        let k : length (stream F by_dart N n t root) ≤ from = omega arith in
+        let z : drop from (stream F by_dart N n t root) ≡ [] = drop_of_length-le (stream F by_dart N n t root) k in
+        rw (h, ← e, lt-ltb l from q) ((refl, eo ∙ rw (z, take-nil {A = ℕ} (length out))))
+
+    -- the page
+    pub written_page : (from l : ℕ) (out out' : List ℕ) (k : ℕ) → l ≡ length (stream F by_dart N n t root) → from ≤ l
+        → out' ≡ penned (stream F by_dart N n t root) from out
+        → k ≡ min (length out) (l - from)
+        → (record { number = 0; place = 0; written = k; length = l } ≡ write_answer F by_dart N n root from t work out)
+        × (out' ≡ write_out F by_dart N n root from t work out)
+    unfolding write_answer write_out write_page write_verdict start_verdict page_after write_answer_of refuse_if penned page_of
+    written_page from l out out' k e q eo ek =
+        let w : length (take (length out) (drop from (stream F by_dart N n t root))) ≡ k = simp (length-take, length-drop) (rw (← e) (sym ek)) in
+        rw (h, ← e, le-ltb l from q) ((rw w, eo))
+
+    -- the work room after the check holds the whole numbering
+    pub written_numbered : (u : List ℕ) → u ≡ check_work F by_dart N n root t work → NumberedFrom F N n t root u
+    unfolding check_work work_after
+    written_numbered u e = record { bodies = written_limits.2; tail = drop (2 * n) work; room = e ∙ rw h }
+
+-- what takes a result's answer, or makes that of its refusal, takes the answer that the result makes
+pub answer_taken : {a : WriteAnswer} (o : Result WriteAnswer (Refusal ℕ)) → MatchResult o (λ x. a ≡ x) (λ r. a ≡ answer_by (Err r)) → a ≡ answer_by o
+answer_taken (Ok x) e = e
+answer_taken (Err r) e = e
+
+-- the same of an answer, by the answer of the check
 module _ (F : Form) (N n root : ℕ) (t work : List ℕ) (c : CheckAnswer) (ec : c ≡ check_answer F by_dart N n root t work) where
-  refused_verdict : c.number ≢ 0 → verdict F by_dart N n root t (length work) ≡ Verdict.refused c.number c.place
+  refused_verdict : c.number ≢ 0 → verdict F by_dart N n root t (length work) ≡ refused c.number c.place
   unfolding check_answer check_answer_of
   refused_verdict h = rw ec (go (verdict F by_dart N n root t (length work)) (λ z. h (ap (λ (x : CheckAnswer). x.number) ec ∙ z)))
     where
-      go : (v : Verdict) → (check_answer_of v).number ≢ 0 → v ≡ Verdict.refused (check_answer_of v).number (check_answer_of v).place
-      go Verdict.fine h = absurd (h refl)
-      go (Verdict.refused nr p) h = refl
+      go : (v : Verdict) → (check_answer_of v).number ≢ 0 → v ≡ refused (check_answer_of v).number (check_answer_of v).place
+      go fine h = absurd (h refl)
+      go (refused nr p) h = refl
 
-  fine_verdict : c.number ≡ 0 → verdict F by_dart N n root t (length work) ≡ Verdict.fine
+  fine_verdict : c.number ≡ 0 → verdict F by_dart N n root t (length work) ≡ fine
   unfolding check_answer check_answer_of
   fine_verdict h = go (verdict F by_dart N n root t (length work)) refl (sym (ap (λ (x : CheckAnswer). x.number) ec) ∙ h)
     where
       go : (v : Verdict) → verdict F by_dart N n root t (length work) ≡ v → (check_answer_of v).number ≡ 0
-          → verdict F by_dart N n root t (length work) ≡ Verdict.fine
-      go Verdict.fine e z = e
-      go (Verdict.refused nr p) e z = absurd (refused_some F by_dart N n root t (length work) nr p e z)
+          → verdict F by_dart N n root t (length work) ≡ fine
+      go fine e z = e
+      go (refused nr p) e z = absurd (refused_some F by_dart N n root t (length work) nr p e z)
 
   -- the check's refusals
   pub write_refused : (from : ℕ) (out : List ℕ) → c.number ≢ 0
       → (record { number = c.number; place = c.place; written = 0; length = 0 } ≡ write_answer F by_dart N n root from t work out)
       × (out ≡ write_out F by_dart N n root from t work out)
-  unfolding write_answer write_out write_page write_verdict start_verdict page_after write_answer_of
-  write_refused from out h = rw (refused_verdict h) ((refl, refl))
+  write_refused from out h = written_refused F N n root t work (sym (refused_verdict h)) from out
 
   module _ (h : c.number ≡ 0) where
-    -- what the check has found
-    pub write_limits : Limits N n t × Valid by_dart N n t × Wanted F by_dart N n t root × (2 * n ≤ length work)
-    write_limits = let P = fine_passes F by_dart N n root t (length work) (fine_verdict h) in (P.limits, P.valid, P.bodies, P.work)
-
-    -- a stream is not long
-    pub write_longest : length (stream F by_dart N n t root) ≤ 50178
-    write_longest = let (L, A, C, w) = write_limits in stream_longest F by_dart N n t root L.dims.1 L.darts.1 (wanted_rooted F by_dart N n t root C) A
-
     -- 10: no byte of the stream falls into the page
     pub write_late : (from l : ℕ) (out out' : List ℕ) → l ≡ length (stream F by_dart N n t root) → l < from
         → out' ≡ penned (stream F by_dart N n t root) from out
         → (record { number = 10; place = l; written = 0; length = 0 } ≡ write_answer F by_dart N n root from t work out)
         × (out' ≡ write_out F by_dart N n root from t work out)
-    unfolding write_answer write_out write_page write_verdict start_verdict page_after write_answer_of refuse_if penned page_of
-    write_late from l out out' e q eo =
-        let k : length (stream F by_dart N n t root) ≤ from = omega arith in
-        let z : drop from (stream F by_dart N n t root) ≡ [] = drop_of_length-le (stream F by_dart N n t root) k in
-        rw (fine_verdict h, ← e, lt-ltb l from q) ((refl, eo ∙ rw (z, take-nil {A = ℕ} (length out))))
+    write_late = written_late F N n root t work (fine_verdict h)
 
     -- the page
     pub write_page_lem : (from l : ℕ) (out out' : List ℕ) (k : ℕ) → l ≡ length (stream F by_dart N n t root) → from ≤ l
@@ -129,12 +172,8 @@ module _ (F : Form) (N n root : ℕ) (t work : List ℕ) (c : CheckAnswer) (ec :
         → k ≡ min (length out) (l - from)
         → (record { number = 0; place = 0; written = k; length = l } ≡ write_answer F by_dart N n root from t work out)
         × (out' ≡ write_out F by_dart N n root from t work out)
-    unfolding write_answer write_out write_page write_verdict start_verdict page_after write_answer_of refuse_if penned page_of
-    write_page_lem from l out out' k e q eo ek =
-        let w : length (take (length out) (drop from (stream F by_dart N n t root))) ≡ k = simp (length-take, length-drop) (rw (← e) (sym ek)) in
-        rw (fine_verdict h, ← e, le-ltb l from q) ((rw w, eo))
+    write_page_lem = written_page F N n root t work (fine_verdict h)
 
     -- the work room after the check holds the whole numbering
     pub write_numbered : (u : List ℕ) → u ≡ check_work F by_dart N n root t work → NumberedFrom F N n t root u
-    unfolding check_work work_after
-    write_numbered u e = record { bodies = write_limits.2; tail = drop (2 * n) work; room = e ∙ rw (fine_verdict h) }
+    write_numbered = written_numbered F N n root t work (fine_verdict h)

@@ -1,2 +1,1 @@
-pub mod Yields
 pub mod Written

@@ -1,33 +1,19 @@
 -- `checker::first_unnumbered` meets its contract: the search has come to d, and every dart before it has a number. Assumes nothing.
 use native.Mathlib.Omega.{arith}
-use Rattle.rules.proofs.Lists.{sought_start, sought_next, sought_here, sought_end}
+use Rattle.rules.proofs.Lists.{sought_from, sought_next, sought_found, sought_past}
 use Rattle.checker.proofs.Verdicts.{numberless_yes, numberless_no}
 use Rattle.checker.proofs.first_unnumbered.Goals as goal
 
 pub loop-d-init : goal.loop-d-init
-loop-d-init c = sought_start _ _
-
-pub offset_bounds-work-d : goal.offset_bounds-work-d
-offset_bounds-work-d c = omega arith
-
-pub bounds-work-d : goal.bounds-work-d
-bounds-work-d c = omega arith
+loop-d-init c = sought_from _ _ _ c.requires.1 c.requires.2
 
 pub returns-then-work-d : goal.returns-then-work-d
 returns-then-work-d c =
-    let a = c.args in
-    sought_here c.loop-d.invariant (omega arith) (numberless_yes a.work.now c.loop-d.d (omega arith) c.if-work-d.true)
-
-pub overflow_add-d : goal.overflow_add-d
-overflow_add-d c = omega arith
-
-pub loop-d-smaller : goal.loop-d-smaller
-loop-d-smaller c = omega arith
+    sought_found c.loop-d.invariant (omega arith) (numberless_yes c.args.work.now c.loop-d.d (omega arith) c.if-work-d.true)
 
 pub loop-d-preserved : goal.loop-d-preserved
 loop-d-preserved c =
-    let a = c.args in
-    sought_next c.loop-d.invariant (omega arith) (numberless_no a.work.now c.loop-d.d (omega arith) c.if-work-d.false)
+    sought_next c.loop-d.invariant (omega arith) (numberless_no c.args.work.now c.loop-d.d (omega arith) c.if-work-d.false)
 
 pub returns : goal.returns
-returns c = sought_end c.loop-d.invariant (omega arith)
+returns c = sought_past c.loop-d.invariant (omega arith)

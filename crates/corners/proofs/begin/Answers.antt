@@ -3,6 +3,6 @@ use mathlib.Core.Path.{refl}
 use Rattle.corners.specs.Steps.{begun}
 use Rattle.corners.proofs.begin.Goals as goal
 
-pub returns : goal.returns
+pub returns-clause-spot : goal.returns-clause-spot
 unfolding begun
-returns c = refl
+returns-clause-spot c = refl

@@ -1,30 +1,22 @@
--- `corners::face_of` meets its contract: so many faces have ended before corner k. Assumes nothing.
+-- `corners::face_of` meets its contract: so many faces have ended before the corner. Assumes nothing.
 use native.Mathlib.Omega.{arith}
-use Rattle.corners.specs.Steps.{begun}
-use Rattle.corners.proofs.Steps.{ended_start, ended_next, ended_end}
+use mathlib.Core.Path.{◌∙◌}
+use borrow.Author.Tests.{le-leb, lt-leb}
+use Rattle.corners.proofs.Steps.{ended_start, ended_next}
 use Rattle.corners.proofs.face_of.Goals as goal
+use Rattle.corners.proofs.face_of.Goals.{then-s-le1, else-s-le1}
 
-pub loop-k-init : goal.loop-k-init
-unfolding begun
-loop-k-init c = (omega arith, rw c.begin-c.ensures (ended_start _ _ c.requires))
+pub loop-init : goal.loop-init
+loop-init c = (c.begin-c.ensures.text, rw c.begin-c.ensures.spot (ended_start _ _))
 
-pub turn-s-requires : goal.turn-s-requires
-turn-s-requires c = c.loop-k.invariant.1.fresh
-
-pub ended-face-requires : goal.ended-face-requires
-ended-face-requires c = omega (arith, c.loop-k.invariant.1.most)
-
-pub overflow_add-k : goal.overflow_add-k
-overflow_add-k c = omega arith
-
-pub loop-k-smaller : goal.loop-k-smaller
-loop-k-smaller c = omega arith
-
-pub loop-k-preserved : goal.loop-k-preserved
-loop-k-preserved c = (
-  omega arith,
-  ended_next _ c.loop-k.invariant.1 _ _ c.turn-s.ensures c.ended-face.ensures,
-)
-
-pub returns : goal.returns
-returns c = ended_end _ c.loop-k.invariant.1 c.loop-k.invariant.0 c.loop-k-test.false
+pub loop-preserved : goal.loop-preserved
+loop-preserved c =
+    let (same, ended) = c.loop.invariant in
+    let s = c.turn-s.ensures in (
+      s.text ∙ same,
+      ended_next _ ended _ _ (rw same at s.step)
+          (elim c.if-s-le1.branch [
+            | then-s-le1 w ↦ rw (le-leb _ 1 w.if-s-le1.true) w.face-is
+            | else-s-le1 w ↦ rw (lt-leb _ 1 w.if-s-le1.false) (omega arith)
+          ]),
+    )

@@ -1,11 +1,8 @@
--- `corners::face_of` meets its contract: so many faces have ended before corner k. Assumes nothing.
-use Prim.Native.Nat.{◌-◌, ◌≤◌}
-use Rattle.corners.specs.Steps.{begun}
+-- `corners::face_of` meets its contract: so many faces have ended before the corner. Assumes nothing.
+use Rattle.std.specs.Prelude.{◌≡◌}
+use Rattle.corners.specs.Steps.{spot, begun}
 use Rattle.corners.proofs.Steps.{Ended}
 use Rattle.corners.proofs.face_of.Given as goal
 
-abbrev pub invariant-loop-k : goal.invariant-loop-k
-invariant-loop-k l = (l.k ≤ l.corner) × Ended l.text (begun l.start) l.k l.face l.c
-
-abbrev pub decreases-loop-k : goal.decreases-loop-k
-decreases-loop-k l = l.corner - l.k
+abbrev pub invariant-loop : goal.invariant-loop
+invariant-loop l = (l.c.place.text ≡ l.start.text) × Ended l.start.text.now (begun l.start.at) l.counter l.face (spot l.c)

@@ -1,16 +1,14 @@
 -- `corners::opened` meets its contract. Assumes nothing.
 use borrow.Author.Tests.{ne_eqb}
-use Rattle.corners.specs.Steps.{opened_of, opened_by}
-use Rattle.corners.proofs.Steps.{known_fresh, opened_new}
+use Rattle.corners.specs.Steps.{spot, opened_of, opened_by}
+use Rattle.corners.proofs.Steps.{opened_new}
 use Rattle.corners.proofs.opened.Goals as goal
 
-pub returns-then-c-ne0 : goal.returns-then-c-ne0
+pub returns-then-c-ne0-clause-spot : goal.returns-then-c-ne0-clause-spot
 unfolding opened_of opened_by
-returns-then-c-ne0 c = rw (ne_eqb _ 0 c.if-c-ne0.true)
+returns-then-c-ne0-clause-spot c = rw (ne_eqb _ 0 c.if-c-ne0.true)
 
-pub taken-v-requires : goal.taken-v-requires
-taken-v-requires c = rw c.taken-k.ensures (known_fresh _ _)
-
-pub returns : goal.returns
-unfolding opened_of opened_by
-returns c = opened_new _ _ _ _ c.if-c-ne0.false c.taken-k.ensures c.taken-v.ensures
+pub returns-clause-spot : goal.returns-clause-spot
+returns-clause-spot c =
+    let k = c.taken-k.ensures in
+    opened_new _ (spot c.args.c) _ _ c.if-c-ne0.false k.number (rw k.text at c.taken-v.ensures.number)

@@ -1,15 +1,14 @@
 -- `corners::turn` meets its contract. Assumes nothing.
-use Rattle.corners.specs.Steps.{step_of, step_by}
-use Rattle.corners.proofs.Steps.{opened_fresh, step_last, step_on}
+use Rattle.corners.specs.Steps.{spot}
+use Rattle.corners.proofs.Steps.{step_last, step_on}
 use Rattle.corners.proofs.turn.Goals as goal
 
-pub returns-then-o-le1 : goal.returns-then-o-le1
-unfolding step_of step_by
-returns-then-o-le1 c = step_last _ _ _ _ _ c.opened-o.ensures c.if-o-le1.true c.line_end.ensures c.begin.ensures
+pub returns-then-o-le1-clause-step : goal.returns-then-o-le1-clause-step
+returns-then-o-le1-clause-step c =
+    let o = c.opened-o.ensures in
+    step_last _ (spot c.args.c) _ _ _ o.spot c.if-o-le1.true (rw o.text at c.line_end.ensures.place) c.begin.ensures.spot
 
-pub taken-v-requires : goal.taken-v-requires
-taken-v-requires c = rw c.opened-o.ensures (opened_fresh _ _ c.requires)
-
-pub returns : goal.returns
-unfolding step_of step_by
-returns c = step_on _ _ _ _ c.opened-o.ensures c.if-o-le1.false c.taken-v.ensures
+pub returns-clause-step : goal.returns-clause-step
+returns-clause-step c =
+    let o = c.opened-o.ensures in
+    step_on _ (spot c.args.c) _ _ o.spot c.if-o-le1.false (rw o.text at c.taken-v.ensures.number)

@@ -1,68 +1,54 @@
 -- `counts::cells` meets its contract: each dart below d is marked, and the darts from which floods were started are those that lead
 -- their cells. Assumes nothing.
-use Prim.Native.Nat.{◌<◌}
-use mathlib.Core.Path.{refl, ◌∙◌}
+use mathlib.Core.Path.{◌≡◌, refl, sym, ◌∙◌}
+use Rattle.std.proofs.Common.{rules}
 use native.Mathlib.Omega.{arith}
-use Rattle.flood.proofs.Queues.{past_blanked}
+use Rattle.flood.proofs.Queues.{past_blanked, same_trans}
 use Rattle.flood.proofs.Orbits.{orbit_inside, flooded_but, flooded_on}
-use Rattle.counts.proofs.Counts.{swept_start, swept_more, swept_old, swept_new, swept_end}
+use Rattle.counts.proofs.Counts.{swept_start, swept_old, swept_new, swept_all, swept_end}
 use Rattle.counts.proofs.cells.Goals as goal
-use Rattle.counts.proofs.cells.Goals.{else-work-d, then-work-d}
+use Rattle.counts.proofs.cells.Goals.{else-queue-d, then-queue-d+else-queue-darts}
 
-pub blank-requires : goal.blank-requires
-blank-requires c = omega arith
+pub loop-d-init : goal.loop-d-init
+loop-d-init c =
+    let (_, _, et, ew) = c.new-queue.ensures in
+    (rw et (swept_start _ _ _ _ _ _ (omega arith) ew), (refl, refl), refl)
 
-pub all_but-ranks-requires : goal.all_but-ranks-requires
-all_but-ranks-requires c = omega arith
+pub flood-requires : goal.flood-requires
+flood-requires c = (
+  c.loop-d.invariant.1.0 ∙ c.new-queue.ensures.0,
+  rw c.all_but-ranks.ensures (omega arith),
+  orbit_inside c.args.valid.now.valid (omega arith),
+  omega arith,
+)
 
-pub loop-tail-init : goal.loop-tail-init
-loop-tail-init c = (refl, omega arith, swept_start _ _ _ _ _ _ (omega arith) c.blank.ensures, refl)
+pub returns-then-queue-darts : goal.returns-then-queue-darts
+returns-then-queue-darts c =
+    let v = c.args.valid.now.valid in
+    let (R, same, past) = c.loop-d.invariant in
+    let (on, flooded) = c.flood.ensures in
+    let F = flooded_but c.args.skip c.all_but-ranks.ensures flooded in
+    let (n, name, _, ew) = c.new-queue.ensures in
+    let over = (flooded_on R.queue (omega arith) (omega arith) F).past ∙ (past ∙ past_blanked _ _ _ (omega arith) ew) in
+    let ended = swept_end v (swept_new v R (omega arith) c.if-queue-d.true F) (omega arith) (omega arith) in
+    (ended, search (rules, over, sym (on.1 ∙ (same.1 ∙ name))))
 
-pub offset_bounds-work-d : goal.offset_bounds-work-d
-offset_bounds-work-d c = omega arith
-
-pub bounds-work-d : goal.bounds-work-d
-bounds-work-d c = let Q = c.loop-tail.invariant.2.queue in omega arith
-
-pub overflow_cast-d : goal.overflow_cast-d
-overflow_cast-d c = omega arith
-
-pub flood-tail-requires : goal.flood-tail-requires
-flood-tail-requires c =
-    let dart-below : c.loop-tail.d < c.args.darts =
-    swept_more c.loop-tail.invariant.2 c.loop-tail-test.true in
-    let p = c.requires in
-    let hd = dart-below in
-    (p.0, c.loop-tail.invariant.2.queue, rw c.all_but-ranks.ensures (omega arith), orbit_inside p.1 (omega (arith, hd)), omega arith)
-
-pub overflow_add-found : goal.overflow_add-found
-overflow_add-found c = let R = c.loop-tail.invariant.2 in omega arith
-
-pub overflow_add-d : goal.overflow_add-d
-overflow_add-d c = omega arith
-
-pub loop-tail-smaller : goal.loop-tail-smaller
-loop-tail-smaller c =
-    let dart-below : c.loop-tail.d < c.args.darts =
-    swept_more c.loop-tail.invariant.2 c.loop-tail-test.true in
-    omega (arith, dart-below)
-
-pub loop-tail-preserved : goal.loop-tail-preserved
-loop-tail-preserved c =
-    let dart-below : c.loop-tail.d < c.args.darts =
-    swept_more c.loop-tail.invariant.2 c.loop-tail-test.true in
-    let (same, below, R, past) = c.loop-tail.invariant in
-    let v = c.requires.1 in
-    let skip = c.args.skip in
-    let hd = dart-below in
-    elim c.if-work-d.branch [
-      | then-work-d w ↦ let F = flooded_but skip c.all_but-ranks.ensures w.flood-tail.ensures in
-          let kept = (flooded_on R.queue (omega (arith, hd)) (omega arith) F).past ∙ past in
-          rw (w.work-is, w.found-is, w.tail-is) (w.flood-tail.auto.work ∙ same, omega (arith, hd), swept_new v R hd w.if-work-d.true F, kept)
-      | else-work-d w ↦ rw (w.work-is, w.found-is, w.tail-is) (same, omega (arith, hd), swept_old v R hd w.if-work-d.false, past)
+pub loop-d-preserved : goal.loop-d-preserved
+loop-d-preserved c =
+    let (R, same, past) = c.loop-d.invariant in
+    let v = c.args.valid.now.valid in
+    elim c.if-queue-d.branch [
+      | then-queue-d+else-queue-darts w ↦ let F = flooded_but c.args.skip c.all_but-ranks.ensures w.flood.ensures.1 in
+          let on = w.flood.ensures.0 in
+          let kept = (flooded_on R.queue (omega arith) (omega arith) F).past ∙ past in
+          rw (w.queue-is, w.found-is) (swept_new v R (omega arith) w.if-queue-d.true F, same_trans same on, kept)
+      | else-queue-d w ↦ rw (w.queue-is, w.found-is) (swept_old v R (omega arith) w.if-queue-d.false, same, past)
     ]
 
 pub returns : goal.returns
 returns c =
-    let p = c.requires in
-    (swept_end p.1 c.loop-tail.invariant.2 c.loop-tail.invariant.1 (omega arith), c.loop-tail.invariant.3 ∙ past_blanked _ _ _ (omega arith) c.blank.ensures)
+    let (R, same, past) = c.loop-d.invariant in
+    let z : c.loop-d.d ≡ c.args.valid.now.map.darts = omega arith in
+    let (n, name, _, ew) = c.new-queue.ensures in
+    let over = past ∙ past_blanked _ _ _ (omega arith) ew in
+    (swept_all (rw z at R), search (rules, over, sym (same.1 ∙ name)))

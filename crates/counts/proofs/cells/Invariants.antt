@@ -1,14 +1,13 @@
 -- `counts::cells` meets its contract: each dart below d is marked, and the darts from which floods were started are those that lead
 -- their cells. Assumes nothing.
-use Prim.Native.Nat.{◌*◌, ◌-◌, ◌≤◌}
+use Prim.Native.Nat.{◌*◌}
 use mathlib.Core.Path.{◌≡◌}
-use lib.ListN.{length, drop}
+use lib.ListN.{drop}
+use Rattle.tables.specs.Maps.{of}
+use Rattle.flood.specs.Queues.{Same}
 use Rattle.counts.proofs.Counts.{Swept}
 use Rattle.counts.proofs.cells.Given as goal
 
-abbrev pub invariant-loop-tail : goal.invariant-loop-tail
-invariant-loop-tail l = (length l.work ≡ length l.initial.work) × (l.d ≤ l.darts) × Swept l.dim l.darts l.tables l.skip l.d l.tail l.found l.work
-    × (drop (2 * l.darts) l.work ≡ drop (2 * l.darts) l.initial.work)
-
-abbrev pub decreases-loop-tail : goal.decreases-loop-tail
-decreases-loop-tail l = l.darts - l.d
+abbrev pub invariant-loop-d : goal.invariant-loop-d
+invariant-loop-d l = of Swept l.valid.map l.skip l.d l.queue.tail l.found l.queue.work.now × Same l.initial.queue l.queue
+    × (drop (2 * l.valid.map.darts) l.queue.work.now ≡ drop (2 * l.valid.map.darts) l.initial.queue.work.now)

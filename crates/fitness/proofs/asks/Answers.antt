@@ -2,14 +2,14 @@
 use Rattle.fitness.proofs.Heads.{asks_none, asks_known, asks_deduced, asks_asked}
 use Rattle.fitness.proofs.asks.Goals as goal
 
-pub returns-then-dim-j : goal.returns-then-dim-j
-returns-then-dim-j c = asks_none _ _ _ _ c.requires.1 _ c.lowest-j.ensures c.if-dim-j.true
+pub returns-in_default : goal.returns-in_default
+returns-in_default c = asks_none _ _ _ _ c.requires c.in_default.ensures
 
 pub returns-in-Known : goal.returns-in-Known
-returns-in-Known c = asks_known _ _ _ _ c.requires.1 _ c.lowest-j.ensures c.if-dim-j.false _ c.partner.ensures c.in-Known.is
+returns-in-Known c = asks_known _ _ _ _ c.requires _ c.in-Some.ensures _ c.partner.ensures c.in-Known.is
 
 pub returns-in-Deduced : goal.returns-in-Deduced
-returns-in-Deduced c = asks_deduced _ _ _ _ c.requires.1 _ c.lowest-j.ensures c.if-dim-j.false _ c.partner.ensures _ c.in-Deduced.is
+returns-in-Deduced c = asks_deduced _ _ _ _ c.requires _ c.in-Some.ensures _ c.partner.ensures _ c.in-Deduced.is
 
 pub returns-in-Asked : goal.returns-in-Asked
-returns-in-Asked c = asks_asked _ _ _ _ c.requires.1 _ c.lowest-j.ensures c.if-dim-j.false _ c.partner.ensures c.in-Asked.is
+returns-in-Asked c = asks_asked _ _ _ _ c.requires _ c.in-Some.ensures _ c.partner.ensures c.in-Asked.is

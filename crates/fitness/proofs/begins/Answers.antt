@@ -1,9 +1,6 @@
 -- `fitness::begins` meets its contract: up to one bit by its value, more by their first two. Assumes nothing.
-use Rattle.fitness.proofs.Laws.{begins_many, begins_none, begins_one, begins_more}
+use Rattle.fitness.proofs.Laws.{begins_none, begins_one, begins_more}
 use Rattle.fitness.proofs.begins.Goals as goal
-
-pub returns-then-bits-gt-WAITING : goal.returns-then-bits-gt-WAITING
-returns-then-bits-gt-WAITING c = begins_many _ _ c.if-bits-gt-WAITING.true
 
 pub returns-then-bits-eq0 : goal.returns-then-bits-eq0
 returns-then-bits-eq0 c = begins_none _ _ c.if-bits-eq0.true

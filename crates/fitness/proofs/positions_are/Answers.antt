@@ -1,33 +1,18 @@
--- `fitness::positions_are` meets its contract: every position before i is x. Assumes nothing.
+-- `fitness::positions_are` meets its contract: the library's test of each of the first positions. Assumes nothing.
+use mathlib.Core.Path.{◌∙◌}
 use native.Mathlib.Omega.{arith}
-use Rattle.rules.proofs.Lists.{passed_start, passed_next, passed_end, fails_at}
-use Rattle.fitness.proofs.Laws.{is_yes, is_no}
+use lib.Dec.{eqb}
+use lib.ListN.{take}
+use Rattle.std.proofs.Common.{rules, tests}
+use Rattle.std.proofs.lemmas.Iterator.{YieldsList-from_slice}
+use Rattle.std.proofs.lemmas.Iterator.Search.{all_from_yields_List}
+use Rattle.fitness.specs.Parts.{is_at}
+use Rattle.fitness.proofs.Laws.{list_all_below}
 use Rattle.fitness.proofs.positions_are.Goals as goal
 
-pub loop-i-init : goal.loop-i-init
-loop-i-init c = passed_start _ _
-
-pub offset_bounds-positions-i : goal.offset_bounds-positions-i
-offset_bounds-positions-i c = omega arith
-
-pub bounds-positions-i : goal.bounds-positions-i
-bounds-positions-i c = omega arith
-
-pub returns-then-positions-i : goal.returns-then-positions-i
-returns-then-positions-i c =
-    let a = c.args in
-    fails_at _ _ c.loop-i.i (omega arith) (is_no a.positions a.x c.loop-i.i c.if-positions-i.true)
-
-pub overflow_add-i : goal.overflow_add-i
-overflow_add-i c = omega arith
-
-pub loop-i-smaller : goal.loop-i-smaller
-loop-i-smaller c = omega arith
-
-pub loop-i-preserved : goal.loop-i-preserved
-loop-i-preserved c =
-    let a = c.args in
-    passed_next c.loop-i.invariant (omega arith) (is_yes a.positions a.x c.loop-i.i c.if-positions-i.false)
-
 pub returns : goal.returns
-returns c = passed_end c.loop-i.invariant (omega arith)
+unfolding is_at
+returns c =
+    let a = c.args in
+    all_from_yields_List (λ p. eqb p a.x) _ _ _ c.all.ensures.ran (YieldsList-from_slice (take a.k a.positions) cc) (λ x b q k. search (rules, tests))
+    ∙ list_all_below (λ p. eqb p a.x) a.positions a.k (omega arith)

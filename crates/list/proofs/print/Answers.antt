@@ -6,4 +6,4 @@ use Rattle.list.proofs.print.Goals as goal
 pub put-n-requires : goal.put-n-requires
 put-n-requires g c =
     let a = c.args in
-    (λ h. (reported a.form a.a.dim a.a.darts a.tables.now _ _ c.report-r.ensures.0 h).limits, omega (arith, c.text_room-out.ensures))
+    (λ h. (reported a.form a.a.dim a.a.darts a.tables.now _ _ c.report-r.ensures.0 h).limits, omega (arith, c.room-out.ensures))

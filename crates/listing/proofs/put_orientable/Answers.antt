@@ -1,18 +1,13 @@
 -- `listing::put_orientable` meets its contract: the line for each of the two answers. Assumes nothing.
 use mathlib.Core.Path.{refl}
-use native.Mathlib.Omega.{arith}
 use Rattle.listing.specs.Listing.{orientable_line}
 use Rattle.words.proofs.Laws.{wrote_same}
 use Rattle.listing.proofs.put_orientable.Goals as goal
 
-pub returns-then-orientable : goal.returns-then-orientable
+pub returns-then-orientable-clause-text_put : goal.returns-then-orientable-clause-text_put
 unfolding orientable_line
-returns-then-orientable c =
-    let w = c.put.ensures in
-    record { text_put = wrote_same w (rw c.if-orientable.true refl); upper_bound = omega (arith, w.ends) }
+returns-then-orientable-clause-text_put c = wrote_same c.put.ensures (rw c.if-orientable.true refl)
 
-pub returns : goal.returns
+pub returns-clause-text_put : goal.returns-clause-text_put
 unfolding orientable_line
-returns c =
-    let w = c.put-2.ensures in
-    record { text_put = wrote_same w (rw c.if-orientable.false refl); upper_bound = omega (arith, w.ends) }
+returns-clause-text_put c = wrote_same c.put-2.ensures (rw c.if-orientable.false refl)

@@ -4,8 +4,6 @@ use Rattle.listing.specs.Listing.{refusal_line}
 use Rattle.words.proofs.Laws.{wrote_same}
 use Rattle.listing.proofs.put_refusal.Goals as goal
 
-pub returns : goal.returns
+pub returns-clause-text_put : goal.returns-clause-text_put
 unfolding refusal_line
-returns c =
-    let w = c.put_pair.ensures in
-    record { text_put = wrote_same w.text_put (rw (c.wide.ensures, c.wide-2.ensures) refl); upper_bound = w.upper_bound }
+returns-clause-text_put c = wrote_same c.put_pair.ensures.text_put (rw (c.from-number.ensures, c.from-place.ensures) refl)

@@ -7,11 +7,6 @@ pub returns-then-page-eq0 : goal.returns-then-page-eq0
 returns-then-page-eq0 c =
     header_fetches _ _ _ c.header_waits.ensures _ (λ e f. header_none _ c.args.s _ _ c.if-s-eq0.true c.if-page-eq0.true e f)
 
-pub overflow_cast-page : goal.overflow_cast-page
-overflow_cast-page c =
-    let x = c.type_inv.page 0 in
-    omega arith
-
 pub returns-then-page-eq1 : goal.returns-then-page-eq1
 returns-then-page-eq1 c =
     let x = c.type_inv.page 0 in

@@ -1,9 +1,6 @@
 -- `reader::read` meets its contract: the record for all the bytes, closed. Assumes nothing.
-use Rattle.reader.proofs.Laws.{opened_bits, read_fit, read_closed}
+use Rattle.reader.proofs.Laws.{read_fit, read_closed}
 use Rattle.reader.proofs.read.Goals as goal
-
-pub page_header-first-requires : goal.page_header-first-requires
-page_header-first-requires c = opened_bits _ c.«open».ensures
 
 pub close_fit-last-requires : goal.close_fit-last-requires
 close_fit-last-requires c = read_fit _ _ _ _ _ c.«open».ensures c.page_header-first.ensures.left

@@ -9,11 +9,11 @@ use Rattle.records.proofs.go_on.Goals as goal
 pub to_fetch-fetch-requires : goal.to_fetch-fetch-requires
 to_fetch-fetch-requires c = λ i q. omega (arith, short_few _ i (c.run-r.ensures.short i q))
 
-pub settle-left-requires : goal.settle-left-requires
-settle-left-requires c = run_settles _ _ _ _ _ _ c.requires.dims _ _ c.run-r.ensures
+pub settle-requires : goal.settle-requires
+settle-requires c = run_settles _ _ _ _ _ c.requires.dims _ _ c.run-r.ensures
 
 pub returns : goal.returns
 returns c =
     let r = c.run-r.ensures in
-    fetches_at _ _ _ _ c.asking.ensures (run_left _ _ _ _ _ _ c.requires.dims _ _ r _ c.settle-left.ensures)
-    (c.to_fetch-fetch.ensures ∙ (signal_wants _ _ _ r.short ∙ left_wants _ _ _ _ c.settle-left.ensures))
+    fetches_at _ _ _ _ c.asking.ensures (run_left _ _ _ _ _ c.requires.dims _ _ r _ c.settle.ensures)
+    (c.to_fetch-fetch.ensures ∙ (signal_wants _ _ _ r.short ∙ left_wants _ _ _ _ c.settle.ensures))

@@ -3,13 +3,11 @@
 use Prim.Native.Nat.{◌-◌}
 use Rattle.rules.specs.Map.{by_dart, link}
 use Rattle.rules.proofs.Lists.{Sought}
+use Rattle.tables.specs.Maps.{of}
 use Rattle.replay.specs.Replays.{known_in}
 use Rattle.replay.proofs.deduced.Given as goal
 
 abbrev pub invariant-loop-i : goal.invariant-loop-i
 invariant-loop-i l =
-    Sought (λ r. known_in by_dart l.dim l.darts l.tables l.work l.j l.position (link by_dart l.dim l.darts l.tables r l.d.0))
-    (l.j - 1) l.i
-
-abbrev pub decreases-loop-i : goal.decreases-loop-i
-decreases-loop-i l = l.j - l.i
+    let m = l.valid.map in
+    Sought (λ r. of (known_in by_dart) m l.work l.j l.position (of (link by_dart) m r l.d.0)) (l.j - 1) l.i

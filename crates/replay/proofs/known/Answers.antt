@@ -5,11 +5,6 @@ use Rattle.replay.proofs.known.Goals as goal
 pub returns-then-number_of-position : goal.returns-then-number_of-position
 returns-then-number_of-position c = known_own _ _ _ _ _ _ _ _ c.number_of.ensures c.if-number_of-position.true
 
-pub number_of-requires-2 : goal.number_of-requires-2
-number_of-requires-2 c =
-    let p = c.requires in
-    (p.3, rw c.partner_of.ensures (p.1.inside _ _ p.2 p.4))
-
 pub returns : goal.returns
 returns c =
     known_other _ _ _ _ _ _ _ _ _ _ c.number_of.ensures c.if-number_of-position.false

@@ -1,28 +1,28 @@
--- `report::misjoined` meets its contract: the queue's length tells whether some dart has no mark. Assumes nothing.
+-- `report::misjoined` meets its contract: who has no mark, or the queue's length, tells by the form. Assumes nothing.
+use mathlib.Core.Path.{sym, ◌∙◌}
 use native.Mathlib.Omega.{arith}
-use Rattle.report.proofs.Bodies.{least_below, one_more_lem, one_all, several_more, several_all}
+use Rattle.rules.specs.Refusals.{number_of}
+use Rattle.rules.proofs.Lists.{found_is, found_not}
+use Rattle.report.proofs.Bodies.{one_more_lem, one_all, several_more, several_all}
 use Rattle.report.proofs.misjoined.Goals as goal
-
-pub least_unmarked-requires : goal.least_unmarked-requires
-least_unmarked-requires c =
-    let p = c.requires in
-    (omega (arith, p.3.room), p.1, p.2)
 
 pub overflow_cast-result : goal.overflow_cast-result
 overflow_cast-result c =
-    let p = c.requires in
-    omega (arith, least_below p.3 c.if-s-darts.true, c.least_unmarked.ensures, p.0)
+    let (e, h) = found_is _ _ _ (sym c.first_unmarked.ensures ∙ c.in-Some.is) in
+    omega (arith, e, h, c.requires.0)
 
-pub returns-then-s-darts : goal.returns-then-s-darts
-returns-then-s-darts c =
-    let p = c.requires in
-    one_more_lem p.3 c.in-One.is c.least_unmarked.ensures c.if-s-darts.true
+pub returns-in-Some : goal.returns-in-Some
+unfolding number_of
+returns-in-Some c =
+    let (e, h) = found_is _ _ _ (sym c.first_unmarked.ensures ∙ c.in-Some.is) in
+    one_more_lem c.in-One.is e h
 
-pub returns-then-darts-s : goal.returns-then-darts-s
-returns-then-darts-s c = several_all c.requires.3 c.in-Several.is c.if-darts-s.true
+pub returns-then-queue : goal.returns-then-queue
+unfolding number_of
+returns-then-queue c = rw c.of.ensures (several_all c.args.queue.now.queue c.in-Several.is c.if-queue.true)
 
-pub returns-else-s-darts : goal.returns-else-s-darts
-returns-else-s-darts c = one_all c.requires.3 c.in-One.is c.if-s-darts.false
+pub returns-in_default : goal.returns-in_default
+returns-in_default c = one_all c.in-One.is (found_not _ _ (sym c.first_unmarked.ensures ∙ c.in_default.is))
 
-pub returns-else-darts-s : goal.returns-else-darts-s
-returns-else-darts-s c = several_more c.requires.3 c.in-Several.is c.if-darts-s.false
+pub returns-else-queue : goal.returns-else-queue
+returns-else-queue c = several_more c.args.queue.now.queue c.in-Several.is c.if-queue.false

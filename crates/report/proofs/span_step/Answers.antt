@@ -1,55 +1,37 @@
 -- `report::span_step` meets its contract: what is marked stays one part of each N-cell that it has, and the darts of the queue
 -- up to the head have been crossed by aN. Assumes nothing.
+use Prim.Native.Nat.{◌<◌}
 use mathlib.Core.Path.{refl}
 use native.Mathlib.Omega.{arith}
 use Rattle.flood.proofs.Orbits.{orbit_inside, flooded_but, flooded_on}
-use Rattle.report.proofs.Spans.{spun_few, link_below, head_below, head_class, spun_old, spun_new}
+use Rattle.report.proofs.Spans.{spun_few, link_below, head_below, spun_new}
 use Rattle.report.proofs.span_step.Goals as goal
+use Rattle.report.proofs.span_step.Goals.{After-queued-d, After-link_at-x}
 
-pub link_at-x-requires : goal.link_at-x-requires
-link_at-x-requires c =
-    let p = c.requires in
-    (p.0, omega arith, head_below p.1 p.2 p.3 _ c.queued-d.ensures)
+-- the head of the queue is a dart, and its aN leads to one
+head : (c : After-queued-d) → c.queued-d.result < c.args.valid.now.map.darts
+head c = let p = c.requires in head_below c.args.valid.now.valid p.1 p.2 _ (rw p.0 at c.queued-d.ensures)
 
-pub bounds-work-x : goal.bounds-work-x
-bounds-work-x c =
-    let p = c.requires in
-    let h = head_below p.1 p.2 p.3 _ c.queued-d.ensures in
-    omega (arith, link_below p.1 c.link_at-x.ensures (omega arith) h, p.3.queue.room)
+across : (c : After-link_at-x) → c.link_at-x.result < c.args.valid.now.map.darts
+across c = link_below c.args.valid.now.valid c.link_at-x.ensures (omega arith) (head (goal.at.After-link_at-x c).After-queued-d)
 
-pub returns-then-work-x : goal.returns-then-work-x
-returns-then-work-x c =
-    let p = c.requires in
-    (spun_old p.1 p.2 p.3 _ c.queued-d.ensures _ c.link_at-x.ensures c.if-work-x.true, refl, refl)
-
-pub bounds-work-d : goal.bounds-work-d
-bounds-work-d c =
-    let p = c.requires in
-    omega (arith, head_below p.1 p.2 p.3 _ c.queued-d.ensures, p.3.queue.room)
-
-pub overflow_sub-class : goal.overflow_sub-class
-overflow_sub-class c =
-    let p = c.requires in
-    omega (arith, head_class p.1 p.2 p.3 _ c.queued-d.ensures)
-
-pub flood-tail-requires : goal.flood-tail-requires
-flood-tail-requires c =
-    let p = c.requires in
-    let h = link_below p.1 c.link_at-x.ensures (omega arith) (head_below p.1 p.2 p.3 _ c.queued-d.ensures) in
-    (p.0, p.3.queue, rw c.all_but-ranks.ensures (omega arith), orbit_inside p.1 h, omega arith)
+pub flood-requires : goal.flood-requires
+flood-requires c =
+    let h = across (goal.at.flood-requires c).After-link_at-x in
+    (c.requires.0, rw c.all_but-ranks.ensures (omega arith), orbit_inside c.args.valid.now.valid h, omega arith)
 
 pub overflow_add-result : goal.overflow_add-result
 overflow_add-result c =
-    let p = c.requires in
-    omega (arith, spun_few p.1 p.3, p.0.darts.1)
+    let v = c.args.valid.now in
+    omega (arith, spun_few v.valid c.requires.2, v.map.limits.darts.1)
 
 pub returns : goal.returns
 returns c =
+    let v = c.args.valid.now in
     let p = c.requires in
-    let eq = c.queued-d.ensures in
-    let ek = c.link_at-x.ensures in
-    let u = c.if-work-x.false in
-    let F = flooded_but c.args.dim c.all_but-ranks.ensures c.flood-tail.ensures in
-    let h = link_below p.1 ek (omega arith) (head_below p.1 p.2 p.3 _ eq) in
-    let past = (flooded_on p.3.queue h (omega arith) F).past in
-    (spun_new p.1 p.2 p.3 _ eq _ ek _ u refl F, refl, past)
+    let h = across (goal.at.returns c).After-link_at-x in
+    let (same, flooded) = c.flood.ensures in
+    let F = flooded_but v.map.dim c.all_but-ranks.ensures flooded in
+    let past = (flooded_on p.2.queue h (omega arith) F).past in
+    let e = rw p.0 at c.queued-d.ensures in
+    ((same, past), refl, spun_new v.valid p.1 p.2 _ e _ c.link_at-x.ensures _ c.if-queue-x.false refl F)

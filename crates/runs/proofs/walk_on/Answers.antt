@@ -1,59 +1,49 @@
 -- `runs::walk_on` meets its contract: what is left to do from here is what was to do at the start, and the queues below the rank are empty.
 -- A pass of the loop makes a turn or goes on past the rank. Assumes nothing.
-use mathlib.Core.Path.{sym, ◌∙◌}
 use native.Mathlib.Omega.{arith}
 use borrow.Author.Rules.{rules}
-use Rattle.runs.proofs.Turns.{ready_limits, ready_seven}
-use Rattle.runs.proofs.Runs.{going_start, going_few, going_past, past_less, going_lowest, going_less, going_more}
-use Rattle.runs.proofs.Runs.{run_ended, run_waits, run_refused}
+use Rattle.runs.proofs.Turns.{ready_limits}
+use Rattle.runs.proofs.Runs.{going_start, going_few, going_past, past_less, going_less, going_more}
+use Rattle.runs.proofs.Runs.{run_ended, run_stops}
 use Rattle.runs.proofs.walk_on.Goals as goal
 
 pub loop-at-init : goal.loop-at-init
-loop-at-init c = (rw c.search_at-at.ensures (going_start _ _ _ _ _ _ _ _ _ c.requires), search rules)
+loop-at-init c = rw c.search_at-at.ensures (going_start _ _ _ _ _ _ _ _ c.requires)
 
 pub offset_bounds-positions-rank : goal.offset_bounds-positions-rank
-offset_bounds-positions-rank c = let l = ready_limits c.loop-at.invariant.0.ready in omega arith
+offset_bounds-positions-rank c = let l = ready_limits c.loop-at.invariant.ready in omega arith
 
 pub bounds-positions-rank : goal.bounds-positions-rank
 bounds-positions-rank c =
-    let y = c.loop-at.invariant.0.ready in
-    let l = ready_limits y in
-    omega (arith, ready_seven y)
+    let l = ready_limits c.loop-at.invariant.ready in
+    omega arith
 
 pub past-at-requires : goal.past-at-requires
 past-at-requires c =
-    let g = c.loop-at.invariant.0 in
+    let g = c.loop-at.invariant in
     let l = ready_limits g.ready in
     (omega arith, omega arith, going_few g)
 
 pub loop-at-smaller-then-at-positions : goal.loop-at-smaller-then-at-positions
-loop-at-smaller-then-at-positions c = past_less c.loop-at.invariant.0 c.loop-at-test.true c.if-at-positions.true c.past-at.ensures
+loop-at-smaller-then-at-positions c = past_less c.loop-at.invariant c.loop-at-test.true c.if-at-positions.true c.past-at.ensures
 
 pub loop-at-preserved-then-at-positions : goal.loop-at-preserved-then-at-positions
 loop-at-preserved-then-at-positions c =
-    (going_past c.loop-at.invariant.0 c.loop-at-test.true c.if-at-positions.true c.past-at.ensures, c.loop-at.invariant.1)
-
-pub turn-requires : goal.turn-requires
-turn-requires c = (c.loop-at.invariant.0.ready, going_lowest c.loop-at.invariant.0 c.loop-at-test.true c.if-at-positions.false)
+    going_past c.loop-at.invariant c.loop-at-test.true c.if-at-positions.true c.past-at.ensures
 
 pub loop-at-smaller : goal.loop-at-smaller
 loop-at-smaller c =
-    rw c.search_at-at-in-On.ensures (going_less c.loop-at.invariant.0 c.loop-at-test.true c.if-at-positions.false c.turn.ensures c.in-On.is)
+    rw c.search_at-at-in-Ok.ensures (going_less c.loop-at.invariant c.loop-at-test.true c.if-at-positions.false c.turn.ensures c.in-Ok.is)
 
 pub loop-at-preserved : goal.loop-at-preserved
 loop-at-preserved c =
-    let g = going_more c.loop-at.invariant.0 c.loop-at-test.true c.if-at-positions.false c.turn.ensures c.in-On.is (search rules) in
-    (rw c.search_at-at-in-On.ensures g, ready_seven g.ready ∙ (sym (ready_seven c.loop-at.invariant.0.ready) ∙ c.loop-at.invariant.1))
+    let g = going_more c.loop-at.invariant c.loop-at-test.true c.if-at-positions.false c.turn.ensures c.in-Ok.is (search rules) in
+    rw c.search_at-at-in-Ok.ensures g
 
-pub returns-in-Waits : goal.returns-in-Waits
-returns-in-Waits c =
+pub returns-in-Err : goal.returns-in-Err
+returns-in-Err c =
     rw c.halt.ensures
-    (run_waits c.loop-at.invariant.0 c.loop-at-test.true c.if-at-positions.false c.turn.ensures _ c.in-Waits.is)
-
-pub returns-in-Refused : goal.returns-in-Refused
-returns-in-Refused c =
-    rw c.halt-in-Refused.ensures
-    (run_refused c.loop-at.invariant.0 c.loop-at-test.true c.if-at-positions.false c.turn.ensures _ c.in-Refused.is)
+    (run_stops c.loop-at.invariant c.loop-at-test.true c.if-at-positions.false c.turn.ensures _ c.in-Err.is)
 
 pub returns : goal.returns
-returns c = rw c.halt-2.ensures (run_ended c.loop-at.invariant.0 (omega arith))
+returns c = rw c.halt-2.ensures (run_ended c.loop-at.invariant (omega arith))

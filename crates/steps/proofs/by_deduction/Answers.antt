@@ -6,7 +6,7 @@ use Rattle.steps.proofs.by_deduction.Goals as goal
 pub tied-requires : goal.tied-requires
 tied-requires c =
     let v = c.requires in
-    (v.limits, v.seven, v.ranked, omega arith, deduced_small v)
+    (v.limits, v.ranked, omega arith, deduced_small v)
 
 pub returns-then-known_link : goal.returns-then-known_link
 returns-then-known_link c = deduced_tied c.requires _ c.known_link.ensures c.if-known_link.true _ _ c.tied.ensures

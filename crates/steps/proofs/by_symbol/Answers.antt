@@ -1,20 +1,9 @@
 -- `steps::by_symbol` meets its contract: each symbol's step, with 13. Assumes nothing.
-use mathlib.Core.Path.{sym, ◌∙◌}
-use native.Mathlib.Omega.{arith}
-use borrow.Author.Tests.{ltb-true}
 use Rattle.steps.proofs.Steps.{symbol_border, symbol_new, symbol_13}
 use Rattle.steps.proofs.by_symbol.Goals as goal
 
-pub tied-requires-then-dart_left : goal.tied-requires-then-dart_left
-tied-requires-then-dart_left c =
-    let v = c.requires in
-    (v.limits, v.seven, v.ranked, omega arith, ltb-true _ _ (sym c.dart_left.ensures ∙ c.if-dart_left.true))
-
 pub returns-in-Border : goal.returns-in-Border
 returns-in-Border c = rw c.in-Border.is (symbol_border c.requires _ _ c.tied.ensures)
-
-pub returns-in-Index : goal.returns-in-Index
-returns-in-Index c = rw c.in-Index.is c.by_index.ensures
 
 pub returns-then-dart_left : goal.returns-then-dart_left
 returns-then-dart_left c = rw c.in-New.is (symbol_new c.requires _ c.dart_left.ensures c.if-dart_left.true _ _ c.tied-then-dart_left.ensures)

@@ -1,24 +1,12 @@
 -- `steps::deduce` meets its contract: what is left of the search from rank i on is the whole search. Assumes nothing.
 use native.Mathlib.Omega.{arith}
-use Rattle.steps.proofs.Partners.{deducing_start, deducing_end, deducing_here, deducing_next}
+use Rattle.steps.proofs.Partners.{deducing_end, deducing_here, deducing_next}
 use Rattle.steps.proofs.deduce.Goals as goal
-
-pub loop-i-init : goal.loop-i-init
-loop-i-init c = deducing_start _ _ _ _ _
-
-pub overflow_add-i : goal.overflow_add-i
-overflow_add-i c = omega arith
 
 pub returns-then-f : goal.returns-then-f
 returns-then-f c =
     let d = c.loop-i.invariant in
     deducing_here d (omega arith) c.known_link-c.ensures c.known_link-f.ensures c.if-f.true c.known_link.ensures
-
-pub overflow_add-i-in-loop-i : goal.overflow_add-i-in-loop-i
-overflow_add-i-in-loop-i c = omega arith
-
-pub loop-i-smaller : goal.loop-i-smaller
-loop-i-smaller c = omega arith
 
 pub loop-i-preserved : goal.loop-i-preserved
 loop-i-preserved c = deducing_next c.loop-i.invariant (omega arith) c.known_link-c.ensures c.known_link-f.ensures c.if-f.false

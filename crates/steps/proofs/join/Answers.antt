@@ -28,6 +28,3 @@ bounds-tables-q c =
     let p = c.requires in
     simp length-set
     (omega (arith, place_room a.dim a.darts a.tables.now a.j a.e.0 p.0 p.1 p.3 c.place-q.result c.place-q.ensures))
-
-pub returns : goal.returns
-returns c = rw (c.place-q.ensures, c.place-p.ensures)

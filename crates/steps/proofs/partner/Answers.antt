@@ -7,11 +7,11 @@ pub returns-then-known_link : goal.returns-then-known_link
 returns-then-known_link c =
     let a = c.args in
     let f = c.known_link in
-    partner_known a.dim a.darts a.tables.now a.j a.b.0 f.result.0 f.ensures c.if-known_link.true
+    partner_known a.map.now.dim a.map.now.darts a.map.now.tables.now a.j a.b.0 f.result.0 f.ensures c.if-known_link.true
 
 pub returns : goal.returns
 returns c =
     let a = c.args in
     let f = c.known_link in
-    partner_other a.dim a.darts a.tables.now a.j a.b.0 f.result.0 f.ensures c.if-known_link.false (told_partner c.deduce.result)
+    partner_other a.map.now.dim a.map.now.darts a.map.now.tables.now a.j a.b.0 f.result.0 f.ensures c.if-known_link.false (told_partner c.deduce.result)
     c.deduce.ensures

@@ -4,10 +4,9 @@ use lib.ListN.{length}
 use Rattle.stored.proofs.Laws.{stored_by}
 use Rattle.stored.proofs.stored_session.Goals as goal
 
--- behind the six fields that are read last stand the three calls on the state, and behind these the form and the positions
 pub returns : goal.returns
 returns c =
     let seven-given : length c.args.s.positions ≡ 7 =
     c.well_formed.0.1.1.1.1.1.1.0.1.0.1 in
-    stored_by c.args.s seven-given _ c.stored_positions-p.ensures _ _ _ _
-    c.state_number.ensures c.refusal_number.ensures c.refusal_place.ensures c.form_number-f.ensures
+    stored_by c.args.s seven-given _ _ _ _ _ _ _ _ _ c.state_numbers.ensures c.stored_positions-p.ensures c.from.ensures c.from-2.ensures c.from-3.ensures
+    c.from-4.ensures c.from-5.ensures c.form_number.ensures c.from-6.ensures

@@ -1,27 +1,18 @@
 -- `survey::body` meets its contract. Assumes nothing.
-use mathlib.Core.Path.{sym, ap}
-use Rattle.text.proofs.Readings.{place_bad, place_good}
-use Rattle.survey.specs.Flaws.{outline_of, plan_of}
-use Rattle.survey.proofs.Plans.{survey_bad, survey_good, planned_words, faces_fresh, planned_faces, planned_good}
+use Rattle.text.proofs.Readings.{told_err}
+use Rattle.survey.specs.Flaws.{plan_of}
+use Rattle.survey.proofs.Plans.{planned_words, planned_faces, planned_good, plan_exit}
 use Rattle.survey.proofs.body.Goals as goal
 
-pub faces-s-requires : goal.faces-s-requires
-faces-s-requires c =
-    let q = place_good _ _ _ c.passed.ensures c.in-Good.is in
-    faces_fresh _ c.args.c q.0 _ q.1 c.requires
+pub returns-in_err-start-clause-plan : goal.returns-in_err-start-clause-plan
+returns-in_err-start-clause-plan c =
+    plan_exit _ _ _ c.from_residual.ensures.1 (planned_words c.args.c _ (told_err _ _ _ c.in_err-start.ensures.place))
 
-pub returns-in-Bad : goal.returns-in-Bad
-unfolding outline_of
-returns-in-Bad c = sym (ap outline_of (planned_words _ _ _ (place_bad _ _ _ c.passed.ensures c.in-Bad.is)))
+pub returns-in_err-s-clause-plan : goal.returns-in_err-s-clause-plan
+returns-in_err-s-clause-plan c =
+    let start = c.in_ok-start.ensures in
+    plan_exit _ _ _ c.from_residual-in_err-s.ensures.1 (planned_faces c.args.c c.in_ok-start.start start.text start.place _ (told_err _ _ _ c.in_err-s.ensures))
 
-pub returns-in-Bad-s : goal.returns-in-Bad-s
-unfolding outline_of
-returns-in-Bad-s c =
-    let q = place_good _ _ _ c.passed.ensures c.in-Good.is in
-    sym (ap outline_of (planned_faces _ _ q.0 _ q.1 _ (survey_bad _ _ _ _ c.faces-s.ensures c.in-Bad-s.is)))
-
-pub returns-in-Good-s : goal.returns-in-Good-s
-unfolding outline_of plan_of
-returns-in-Good-s c =
-    let q = place_good _ _ _ c.passed.ensures c.in-Good.is in
-    sym (ap outline_of (planned_good _ _ q.0 _ q.1 _ (survey_good _ _ _ _ c.faces-s.ensures c.in-Good-s.is)))
+pub returns-clause-plan : goal.returns-clause-plan
+unfolding plan_of
+returns-clause-plan c = let start = c.in_ok-start.ensures in planned_good c.args.c c.in_ok-start.start start.text start.place _ c.in_ok-s.ensures

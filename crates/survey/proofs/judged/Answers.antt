@@ -1,12 +1,16 @@
 -- `survey::judged` meets its contract. Assumes nothing.
-use Rattle.survey.proofs.Laws.{judged_by, judged_here, judged_fine}
+use mathlib.Core.Path.{sym, ◌∙◌}
+use Rattle.survey.specs.Flaws.{judged_of, first_of}
 use Rattle.survey.proofs.judged.Goals as goal
 
-pub returns-then-s-ne0 : goal.returns-then-s-ne0
-returns-then-s-ne0 c = judged_by _ _ _ _ c.if-s-ne0.true
+pub returns-then-is_some : goal.returns-then-is_some
+unfolding judged_of
+returns-then-is_some c = rw (sym c.is_some.ensures ∙ c.if-is_some.true)
 
-pub returns-then-number-ne0 : goal.returns-then-number-ne0
-returns-then-number-ne0 c = judged_here _ _ _ _ c.if-s-ne0.false c.if-number-ne0.true
+pub returns-in-Some : goal.returns-in-Some
+unfolding judged_of first_of
+returns-in-Some c = rw (sym c.is_some.ensures ∙ c.if-is_some.false, c.in-Some.is)
 
-pub returns : goal.returns
-returns c = judged_fine _ _ _ _ c.if-s-ne0.false c.if-number-ne0.false
+pub returns-in-None : goal.returns-in-None
+unfolding judged_of first_of
+returns-in-None c = rw (sym c.is_some.ensures ∙ c.if-is_some.false, c.in-None.is)

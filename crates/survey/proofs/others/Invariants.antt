@@ -1,10 +1,6 @@
--- `survey::others` meets its contract: own is the last corner read, number what the corners up to it say. Assumes nothing.
-use Prim.Native.Nat.{◌-◌}
+-- `survey::others` meets its contract: own is the last corner read, worst what the corners up to it say. Assumes nothing.
 use Rattle.survey.proofs.Looks.{Looking}
 use Rattle.survey.proofs.others.Given as goal
 
-abbrev pub invariant-loop-k : goal.invariant-loop-k
-invariant-loop-k l = Looking l.text l.at l.count l.vertices l.first l.flaw l.number l.own l.p l.k
-
-abbrev pub decreases-loop-k : goal.decreases-loop-k
-decreases-loop-k l = l.count - l.k
+abbrev pub invariant-loop : goal.invariant-loop
+invariant-loop l = Looking l.start l.count l.vertices l.first l.initial.worst l.worst l.own l.p l.counter

@@ -1,28 +1,22 @@
 -- `survey::outlined` meets its contract. Assumes nothing.
-use mathlib.Core.Path.{sym, ◌∙◌, ap}
-use Rattle.text.proofs.Readings.{place_bad, place_good, header_bad, header_good, keyword_fresh, counts_fresh}
-use Rattle.survey.specs.Flaws.{outline_of}
-use Rattle.survey.proofs.Plans.{plan_keyword, plan_counts, plan_body}
+use mathlib.Core.Path.{◌∙◌, ap}
+use Rattle.text.specs.Leaves.{told_of, alone}
+use Rattle.text.proofs.Readings.{told_err}
+use Rattle.survey.proofs.Plans.{plan_exit, plan_keyword, plan_counts, plan_body}
 use Rattle.survey.proofs.outlined.Goals as goal
 
-pub counts-h-requires : goal.counts-h-requires
-counts-h-requires c = let q = place_good _ _ _ c.keyword.ensures c.in-Good.is in keyword_fresh _ _ q.0 _ q.1
+pub returns-in_err-start-clause-plan : goal.returns-in_err-start-clause-plan
+returns-in_err-start-clause-plan c =
+    plan_exit _ _ _ c.from_residual.ensures.1 (plan_keyword _ _ (told_err _ _ _ c.in_err-start.ensures.place))
 
-pub body-requires : goal.body-requires
-body-requires c = let r = header_good _ _ _ c.counts-h.ensures c.in-Good-h.is in counts_fresh _ _ r.0 _ r.1
+pub returns-in_err-sizes-clause-plan : goal.returns-in_err-sizes-clause-plan
+returns-in_err-sizes-clause-plan c =
+    let start = c.in_ok-start.ensures in
+    plan_exit _ _ _ c.from_residual-in_err-sizes.ensures.1
+    (plan_counts _ _ start.place _ (rw start.text at c.in_err-sizes.ensures.reading))
 
-pub returns-in-Bad : goal.returns-in-Bad
-unfolding outline_of
-returns-in-Bad c = sym (ap outline_of (plan_keyword _ _ (place_bad _ _ _ c.keyword.ensures c.in-Bad.is)))
-
-pub returns-in-Bad-h : goal.returns-in-Bad-h
-unfolding outline_of
-returns-in-Bad-h c =
-    let q = place_good _ _ _ c.keyword.ensures c.in-Good.is in
-    sym (ap outline_of (plan_counts _ q.0 _ _ q.1 (header_bad _ _ _ c.counts-h.ensures c.in-Bad-h.is)))
-
-pub returns-in-Good-h : goal.returns-in-Good-h
-returns-in-Good-h c =
-    let q = place_good _ _ _ c.keyword.ensures c.in-Good.is in
-    let r = header_good _ _ _ c.counts-h.ensures c.in-Good-h.is in
-    c.body.ensures ∙ sym (ap outline_of (plan_body _ q.0 _ _ r.0 q.1 r.1))
+pub returns-clause-plan : goal.returns-clause-plan
+returns-clause-plan c =
+    let start = c.in_ok-start.ensures in
+    let sizes = c.in_ok-sizes.ensures in
+    c.body.ensures.plan ∙ rw (sizes.text, start.text) (ap (told_of alone) (plan_body _ _ start.place _ _ (rw start.text at sizes.reading)))

@@ -1,29 +1,21 @@
 -- `text::line_end` meets its contract: no LF up to p. Assumes nothing.
 use native.Mathlib.Omega.{arith}
+use mathlib.Core.Path.{◌≡◌, ◌∙◌}
 use borrow.Author.Tests.{eq-eqb, ne_eqb}
 use Rattle.shapes.specs.Text.{line_end}
-use Rattle.text.proofs.Laws.{gone_start, gone_next, gone_here, gone_end}
+use Rattle.text.proofs.Laws.{fresh_feed, gone_next, gone_here, gone_end}
 use Rattle.text.proofs.line_end.Goals as goal
 
-pub loop-p-init : goal.loop-p-init
-loop-p-init c = gone_start _ _ _
+pub invariant_of-result : goal.invariant_of-result
+invariant_of-result c = record { fresh = fresh_feed _ _ c.if-text-p-eq10.true }
 
-pub bounds-text-p : goal.bounds-text-p
-bounds-text-p c = omega arith
-
-pub returns-then-text-p-eq10 : goal.returns-then-text-p-eq10
+pub returns-then-text-p-eq10-clause-place : goal.returns-then-text-p-eq10-clause-place
 unfolding line_end
-returns-then-text-p-eq10 c = gone_here c.loop-p.invariant (omega arith) (eq-eqb _ 10 c.if-text-p-eq10.true)
-
-pub overflow_add-p : goal.overflow_add-p
-overflow_add-p c = omega arith
-
-pub loop-p-smaller : goal.loop-p-smaller
-loop-p-smaller c = omega arith
+returns-then-text-p-eq10-clause-place c = gone_here c.loop-p.invariant.0 (omega arith) (eq-eqb _ 10 c.if-text-p-eq10.true)
 
 pub loop-p-preserved : goal.loop-p-preserved
-loop-p-preserved c = gone_next c.loop-p.invariant (omega arith) (ne_eqb _ 10 c.if-text-p-eq10.false)
+loop-p-preserved c = (gone_next c.loop-p.invariant.0 (omega arith) (ne_eqb _ 10 c.if-text-p-eq10.false), omega arith)
 
-pub returns : goal.returns
+pub returns-clause-place : goal.returns-clause-place
 unfolding line_end
-returns c = gone_end c.loop-p.invariant (omega arith)
+returns-clause-place c = let z : c.max-end.result ≡ c.loop-p.p = omega arith in z ∙ gone_end c.loop-p.invariant.0 (omega arith)

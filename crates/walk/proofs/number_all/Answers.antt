@@ -3,51 +3,41 @@
 use native.Mathlib.Omega.{arith}
 use borrow.Author.Rules.{rules}
 use mathlib.Core.List.{[], ◌∷◌}
+use Rattle.tables.specs.Maps.{of}
 use Rattle.walk.specs.Standing.{Going}
 use Rattle.walk.proofs.Walking.{Rooted}
 use Rattle.walk.proofs.Going.{rooted, going_starts, going_ends, one_ends, is_several, as_several}
 use Rattle.walk.proofs.number_all.Goals as goal
+use Rattle.walk.proofs.number_all.Goals.{Start, After-give_number, After-number_body-count}
+
+-- from the root, the first body begins, and is numbered
+from : (c : Start) → let a = c.args in of Rooted a.valid.now.map a.root
+from c = let v = c.args.valid.now in rooted v.map.limits v.valid c.requires.0
+
+begins : (c : After-give_number) → let a = c.args in
+    of (Going a.form) a.valid.now.map a.root a.work.now 1 1 (0 ∷ 0 ∷ 0 ∷ 0 ∷ 0 ∷ 0 ∷ 0 ∷ []) c.give_number.new.work
+begins c = going_starts c.args.form (from (goal.at.After-give_number c).Start) c.args.work.now _ _ c.blank.ensures c.give_number.ensures
+
+first : (c : After-number_body-count) → let a = c.args in let n = c.number_body-count in
+    of (Going a.form) a.valid.now.map a.root a.work.now 1 n.result n.new.positions n.new.work
+first c = c.number_body-count.ensures.0.going _ _ _ 1 (begins (goal.at.After-number_body-count c).After-give_number)
 
 pub number_body-count-requires : goal.number_body-count-requires
 number_body-count-requires c =
-    let from : let a = c.args in Rooted a.dim a.darts a.tables.now a.root =
-    let p = c.requires in rooted p.0 p.3 p.1 in
-    let begins : let a = c.args in Going a.form a.dim a.darts a.tables.now a.root a.work.now 1 1 (0 ∷ 0 ∷ 0 ∷ 0 ∷ 0 ∷ 0 ∷ 0 ∷ []) c.give_number.new.work =
-    going_starts c.args.form from c.args.work.now _ _ c.blank.ensures c.give_number.ensures in
     let a = c.args in
-    (c.requires.0, c.requires.3, search rules, search rules, record { form = a.form; root = a.root; lent = a.work.now; bodies = 1; going = begins })
+    let g = begins (goal.at.number_body-count-requires c).After-give_number in
+    (search rules, record { form = a.form; root = a.root; lent = a.work.now; bodies = 1; going = g })
 
 pub number_rest-requires : goal.number_rest-requires
 number_rest-requires c =
-    let from : let a = c.args in Rooted a.dim a.darts a.tables.now a.root =
-    let p = c.requires in rooted p.0 p.3 p.1 in
-    let begins : let a = c.args in Going a.form a.dim a.darts a.tables.now a.root a.work.now 1 1 (0 ∷ 0 ∷ 0 ∷ 0 ∷ 0 ∷ 0 ∷ 0 ∷ []) c.give_number.new.work =
-    going_starts c.args.form from c.args.work.now _ _ c.blank.ensures c.give_number.ensures in
-    let first : let a = c.args in Going a.form a.dim a.darts a.tables.now a.root a.work.now 1 c.number_body-count.result c.number_body-count.new.positions
-    c.number_body-count.new.work =
-    c.number_body-count.ensures.0.going _ _ _ 1 begins in
-    (c.requires.0, c.requires.3, search rules, search rules, c.number_body-count.ensures.1, (_, _, is_several c.in-Several.is first))
+    let g = first (goal.at.number_rest-requires c).After-number_body-count in
+    (search rules, c.number_body-count.ensures.1, (_, _, is_several c.in-Several.is g))
 
 pub returns-in-One : goal.returns-in-One
 returns-in-One c =
-    let from : let a = c.args in Rooted a.dim a.darts a.tables.now a.root =
-    let p = c.requires in rooted p.0 p.3 p.1 in
-    let begins : let a = c.args in Going a.form a.dim a.darts a.tables.now a.root a.work.now 1 1 (0 ∷ 0 ∷ 0 ∷ 0 ∷ 0 ∷ 0 ∷ 0 ∷ []) c.give_number.new.work =
-    going_starts c.args.form from c.args.work.now _ _ c.blank.ensures c.give_number.ensures in
-    let first : let a = c.args in Going a.form a.dim a.darts a.tables.now a.root a.work.now 1 c.number_body-count.result c.number_body-count.new.positions
-    c.number_body-count.new.work =
-    c.number_body-count.ensures.0.going _ _ _ 1 begins in
-    let P = from in
-    let G = first in
+    let P = from (goal.at.returns-in-One c).Start in
+    let G = first (goal.at.returns-in-One c).After-number_body-count in
     going_ends P G _ c.number_body-count.ensures.1 (omega arith) (one_ends P G c.in-One.is)
 
 pub returns-in-Several : goal.returns-in-Several
-returns-in-Several c =
-    let from : let a = c.args in Rooted a.dim a.darts a.tables.now a.root =
-    let p = c.requires in rooted p.0 p.3 p.1 in
-    let begins : let a = c.args in Going a.form a.dim a.darts a.tables.now a.root a.work.now 1 1 (0 ∷ 0 ∷ 0 ∷ 0 ∷ 0 ∷ 0 ∷ 0 ∷ []) c.give_number.new.work =
-    going_starts c.args.form from c.args.work.now _ _ c.blank.ensures c.give_number.ensures in
-    let first : let a = c.args in Going a.form a.dim a.darts a.tables.now a.root a.work.now 1 c.number_body-count.result c.number_body-count.new.positions
-    c.number_body-count.new.work =
-    c.number_body-count.ensures.0.going _ _ _ 1 begins in
-    as_several c.in-Several.is first (c.number_rest.ensures _ _)
+returns-in-Several c = as_several c.in-Several.is (first (goal.at.returns-in-Several c).After-number_body-count) (c.number_rest.ensures _ _)

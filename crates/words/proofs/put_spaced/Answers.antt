@@ -1,12 +1,8 @@
 -- `words::put_spaced` meets its contract: one text after the other. Assumes nothing.
-use native.Mathlib.Omega.{arith}
 use Rattle.words.specs.Words.{spaced}
 use Rattle.words.proofs.Laws.{wrote_then}
 use Rattle.words.proofs.put_spaced.Goals as goal
 
-pub returns : goal.returns
+pub returns-clause-text_put : goal.returns-clause-text_put
 unfolding spaced
-returns c =
-    let number = c.put_number.ensures in
-    let blank = c.put-end.ensures in
-    record { text_put = wrote_then blank number.text_put; upper_bound = omega (arith, blank.ends, number.upper_bound) }
+returns-clause-text_put c = wrote_then c.put-end.ensures c.put_number.ensures.text_put

@@ -2,15 +2,8 @@
 use Prim.Native.Nat.{ℕ, ◌-◌, ◌%◌}
 use mathlib.Core.Path.{refl, ap}
 use native.Mathlib.Omega.{arith}
-use lib.Pow.{pow_pos}
 use Rattle.symbols.proofs.Cursors.{weight, past_some}
 use Rattle.symbols.proofs.Cursor.fewer.Goals as goal
-
-pub nonzero_rem-result : goal.nonzero_rem-result
-nonzero_rem-result c =
-    let a = c.args in
-    let j = a.self.waiting - a.bits in
-    rw (weight j (omega arith)) (pow_pos j)
 
 pub returns : goal.returns
 returns c =

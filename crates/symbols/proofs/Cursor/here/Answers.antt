@@ -4,4 +4,4 @@ use Rattle.symbols.proofs.Hands.{none_fits}
 use Rattle.symbols.proofs.Cursor.here.Goals as goal
 
 pub loaded-requires : goal.loaded-requires
-loaded-requires c = let p = c.requires in (none_fits _ _ (omega arith), omega arith, p.0, p.1)
+loaded-requires c = let p = c.requires in rw c.none.ensures (none_fits _ _ (omega arith), omega arith, p.0, p.1)

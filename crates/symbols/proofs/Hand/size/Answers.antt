@@ -1,6 +1,6 @@
 -- `symbols::Hand::size` meets its contract: by the first two bits. Assumes nothing.
 use mathlib.Core.Path.{sym}
-use Rattle.symbols.proofs.Bits.{number_new, number_border, number_index}
+use Rattle.symbols.proofs.BitLists.{number_new, number_border, number_index}
 use Rattle.symbols.proofs.Hand.size.Goals as goal
 
 pub returns-then-head-lt8388608 : goal.returns-then-head-lt8388608

@@ -1,9 +1,0 @@
--- `build::next_first` meets its contract. Assumes nothing.
-use borrow.Author.Tests.{eq-eqb, ne_eqb}
-use Rattle.build.proofs.next_first.Goals as goal
-
-pub returns-then-left-eq1 : goal.returns-then-left-eq1
-returns-then-left-eq1 c = rw (eq-eqb _ 1 c.if-left-eq1.true)
-
-pub returns : goal.returns
-returns c = rw (ne_eqb _ 1 c.if-left-eq1.false)
