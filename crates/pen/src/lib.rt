@@ -91,6 +91,8 @@ impl<'a> Pen<'a> {
     pub fn fill(&mut self)
         requires { PenFits 0 self.old }
         ensures same_reference { self.new.out.ghost_name ≡ self.old.out.ghost_name }
+        ensures stays { (self.new.start ≡ self.old.start) × (self.new.at ≡ self.old.at)
+            × (self.new.bits ≡ self.old.bits) × (self.new.value ≡ self.old.value) }
         ensures filled { (bs : List Bool) (out0 : List ℕ) → Holds bs out0 self.old
             → self.new.out.now ≡ penned (filled bs) self.old.start out0 }
     {

@@ -1,5 +1,5 @@
 -- The write call taken apart as the code takes it: the check's refusals, then 10, then the page. Rests on the rules' Check and Streams, and on Replays.
-use Prim.Native.Nat.{ℕ, ◌+◌, ◌*◌, ◌-◌, ◌≤◌, ◌<◌, ◌^◌, min}
+use Prim.Native.Nat.{ℕ, ◌+◌, ◌*◌, ◌-◌, ◌≤◌, ◌<◌, ◌^◌, min, ◌/◌, ◌%◌}
 use mathlib.Core.Path.{◌≡◌, refl, ap, sym, ◌∙◌}
 use mathlib.Core.Logic.{◌≢◌}
 use Rattle.rules.specs.declared.CheckAnswer.{CheckAnswer}
@@ -65,10 +65,15 @@ unfolding stream_bits
 stream_bits_lem F N n t root h6 hn hr A =
     omega (arith, length-append (header F N n) (codes (symbols_of F by_dart N n t root)), header_length F N n, symbols_few F by_dart N n t root h6 hn hr A)
 
+-- the length of a stream by the whole bytes and the bits after them
+pub bits_length : (bs : List Bool) {at bits : ℕ} → at ≡ length bs / 8 → bits ≡ length bs % 8
+    → (0 < bits → at + 1 ≡ length (filled bs)) × (bits ≡ 0 → at ≡ length (filled bs))
+bits_length bs a b = let q = filled_length bs in (λ h. omega arith, λ h. omega arith)
+
 -- the page of a whole stream, as the pen leaves it, and its length, as the pen tells it
 pub pen_length : {bs : List Bool} {out0 : List ℕ} {pen : Pen} → Holds bs out0 pen
     → (0 < pen.bits → pen.at + 1 ≡ length (filled bs)) × (pen.bits ≡ 0 → pen.at ≡ length (filled bs))
-pen_length {bs} H = let q = filled_length bs in let a = H.at in let b = H.bits in (λ h. omega arith, λ h. omega arith)
+pen_length {bs} H = bits_length bs H.at H.bits
 
 module _ (F : Form) (N n : ℕ) (t : List ℕ) (root : ℕ) {start : ℕ} {lent : MutBor (List ℕ)} {first p : Pen} (e : first ≡ blank_pen start lent)
     (u : Put (stream_bits F N n t root) first p) where

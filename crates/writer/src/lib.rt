@@ -3,7 +3,7 @@
 #![tactic(auto)]
 
 ghost use Rattle.std.specs.Prelude.{◌≡◌, length, get_or, Bool, List, IfSome};
-ghost use Prim.Native.Nat.{ℕ, ◌+◌, ◌*◌, ◌≤◌};
+ghost use Prim.Native.Nat.{ℕ, ◌+◌, ◌*◌, ◌/◌, ◌%◌, ◌≤◌};
 ghost use Rattle.rules.specs.Bodies.{first_bits};
 ghost use Rattle.rules.specs.Inner.{Emptied};
 ghost use Rattle.rules.specs.Map.{by_dart};
@@ -80,7 +80,7 @@ pub fn put_symbols(form: Form, valid: &ValidMap, work: &[u16], pen: &mut Pen)
 // How many bytes a pen's bits come to once the last is filled.
 pub fn bytes_of(pen: &Pen) -> usize
     requires { PenFits 8 pen.now }
-    ensures { (bs : List Bool) (out0 : List ℕ) → Holds bs out0 pen.now
+    ensures { (bs : List Bool) → pen.now.at ≡ length bs / 8 → pen.now.bits ≡ length bs % 8
         → result ≡ length (filled bs) }
 {
     if 0 < pen.bits {

@@ -62,4 +62,4 @@ returns c = λ root q.
     let u = streamed (goal.at.returns c).After-put_symbols root q in
     let e = c.new-pen.ensures in
     let p = emitted _ _ _ _ root e u c.fill.new.self.out.now c.fill.ensures.filled in
-    (emitted_length _ _ _ _ root e u _ c.bytes_of-length.ensures, search (rules, p, ap (λ (x : Pen). x.out.ghost_name) e, u.same_reference))
+    (emitted_length _ _ _ _ root e u _ (λ bs out0 H. c.bytes_of-length.ensures bs H.at H.bits), search (rules, p, ap (λ (x : Pen). x.out.ghost_name) e, u.same_reference))
