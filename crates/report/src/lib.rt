@@ -130,16 +130,29 @@ pub fn first_unmarked(queue: &Queue, from: usize) -> Option<usize>
     checker::first_unnumbered(queue.work, from, queue.darts)
 }
 
-// Body after body, until every dart has a mark: the next begins at the least dart that has none. Over all bodies
-// together that search goes forward once.
+// The next body begins at the least dart that has no mark. That there is one the queue's length tells, so what stands
+// behind `else` is never come to.
+pub fn next_body(valid: &ValidMap, queue: &mut Queue, s: Spanning) -> Spanning
+    requires { (queue.old.darts ≡ valid.now.map.darts) × (queue.old.tail < valid.now.map.darts)
+        × stands (of Spanned valid.now.map) queue.old s }
+    ensures { Stays valid.now.map.darts queue.old queue.new × (s.next < result.next)
+        × stands (of Spanned valid.now.map) queue.new result }
+{
+    let Some(d) = first_unmarked(queue, s.next) else {
+        return s;
+    };
+    span_body(valid, queue, Spanning { next: d, ..s })
+}
+
+// Body after body, until every dart has a mark. Over all bodies together the search for the next goes forward once.
 pub fn span_rest(valid: &ValidMap, queue: &mut Queue, first: Spanning) -> Spanning
     requires { (queue.old.darts ≡ valid.now.map.darts) × stands (of Spanned valid.now.map) queue.old first }
     ensures { Stays valid.now.map.darts queue.old queue.new × stands (of Spanned valid.now.map) queue.new result
         × (valid.now.map.darts ≤ queue.new.tail) }
 {
     let mut s = first;
-    while let Some(d) = first_unmarked(queue, s.next) {
-        s = span_body(valid, queue, Spanning { next: d, ..s });
+    while queue.tail < queue.darts {
+        s = next_body(valid, queue, s);
     }
     s
 }
@@ -174,11 +187,13 @@ pub fn misjoined(form: Form, queue: &Queue, s: Spanning) -> Result<(), Refusal>
 {
     match form {
         Form::One => {
-            if let Some(d) = first_unmarked(queue, s.next) {
-                return Err(Refusal {
-                    reason: Reason::NotReached,
-                    place: d as u32,
-                });
+            if queue.tail < queue.darts {
+                if let Some(d) = first_unmarked(queue, s.next) {
+                    return Err(Refusal {
+                        reason: Reason::NotReached,
+                        place: d as u32,
+                    });
+                }
             }
         }
         Form::Several => {
