@@ -4,7 +4,7 @@
 ghost use Rattle.std.specs.Prelude.{◌≡◌, ℕ, ◌+◌, ◌*◌, ◌-◌, ◌≤◌, ◌<◌, length, get_or};
 ghost use Rattle.rules.specs.Map.{by_dart, link};
 ghost use Rattle.tables.specs.Maps.{of};
-ghost use Rattle.flood.specs.Flood.{kept, runs, but_one, between, queued, entered_room, entered_tail};
+ghost use Rattle.flood.specs.Flood.{kept, runs, but_one, between, entered_room, entered_tail};
 ghost use Rattle.flood.specs.Flood.{IsQueue, queue_prop, LinksInside, OrbitInside, SpreadFrom, Flooded};
 
 use rules::Session;
@@ -28,6 +28,48 @@ impl Ranks {
             high: rank + 1,
         }
     }
+}
+
+// The dart at a place of the queue that lies in a room. This leaf and the two after it are over the room and the queue's
+// length alone, for any class; `Queue` has them over its own room.
+pub fn queued(work: &[u16], darts: usize, place: usize) -> u16
+    requires { (2 * darts ≤ length work.now) × (place < darts) }
+    ensures { result ≡ Rattle.flood.specs.Flood.queued darts work.now place }
+{
+    work[darts + place]
+}
+
+// A dart that has no mark gets a class and enters the queue. The answer is the queue's length.
+pub fn enter(work: &mut [u16], darts: usize, tail: usize, dart: u16, class: u16) -> usize
+    requires { IsQueue darts tail work.old × (dart < darts) }
+    ensures { (result ≡ entered_tail work.old tail dart)
+        × (work.new ≡ entered_room darts work.old tail dart class) }
+{
+    let d = dart as usize;
+    if work[d] != Session::NO_LINK {
+        return tail;
+    }
+    work[d] = class;
+    work[darts + tail] = dart;
+    tail + 1
+}
+
+// Where the link of one rank leads from a dart gets a class.
+pub fn enter_link(
+    map: &Map,
+    work: &mut [u16],
+    rank: usize,
+    tail: usize,
+    dart: u16,
+    class: u16,
+) -> usize
+    requires { IsQueue map.now.darts tail work.old × (rank ≤ map.now.dim) × (dart < map.now.darts)
+        × (of (link by_dart) map.now rank dart < map.now.darts) }
+    ensures { let x = of (link by_dart) map.now rank dart in (result ≡ entered_tail work.old tail x)
+        × (work.new ≡ entered_room map.now.darts work.old tail x class) }
+{
+    let x = map.link_at(rank, dart);
+    enter(work, map.darts, tail, x, class)
 }
 
 // The darts marked so far, in order, over lent work room: its first n entries hold each dart's class, 0 or 1, or the
@@ -61,9 +103,9 @@ impl<'a> Queue<'a> {
     // The dart of the queue at a place.
     pub fn queued(&self, place: usize) -> u16
         requires { place < self.now.darts }
-        ensures { result ≡ queued self.now.darts self.now.work.now place }
+        ensures { result ≡ Rattle.flood.specs.Flood.queued self.now.darts self.now.work.now place }
     {
-        self.work[self.darts + place]
+        queued(self.work, self.darts, place)
     }
 
     // A dart that has no mark gets its class and enters the queue.
@@ -72,14 +114,7 @@ impl<'a> Queue<'a> {
         ensures { Same self.old self.new × (self.new.tail ≡ entered_tail self.old.work.now self.old.tail dart)
             × (self.new.work.now ≡ entered_room self.old.darts self.old.work.now self.old.tail dart class) }
     {
-        let d = dart as usize;
-        let end = self.darts + self.tail;
-        let work = &mut *self.work;
-        if work[d] == Session::NO_LINK {
-            work[d] = class;
-            work[end] = dart;
-            self.tail += 1;
-        }
+        self.tail = enter(self.work, self.darts, self.tail, dart, class);
     }
 
     // Where the link of one rank leads from a dart gets a class.
@@ -90,8 +125,7 @@ impl<'a> Queue<'a> {
             Same self.old self.new × (self.new.tail ≡ entered_tail self.old.work.now self.old.tail x)
             × (self.new.work.now ≡ entered_room map.now.darts self.old.work.now self.old.tail x class) }
     {
-        let x = map.link_at(rank, dart);
-        self.enter(x, class);
+        self.tail = enter_link(map, self.work, rank, self.tail, dart, class);
     }
 
     // The links of the ranks from one up to another are followed from a dart; the class is the other one than its own.

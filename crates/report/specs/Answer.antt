@@ -14,3 +14,7 @@ counted_of N n t = record { number = 0; place = 0; cells = cell_counts by_dart N
 abbrev pub answer_by : Result ReportAnswer (Refusal ℕ) → ReportAnswer
 answer_by (Ok a) = a
 answer_by (Err r) = record { number = number_of r.reason; place = r.place; cells = replicate 7 0; free = 0; orientable = false }
+
+-- a refusal: nothing is counted
+unfoldable pub refusal_of : ℕ → ℕ → ReportAnswer
+refusal_of nr p = record { number = nr; place = p; cells = replicate 7 0; free = 0; orientable = false }

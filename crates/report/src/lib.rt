@@ -8,7 +8,7 @@ ghost use Rattle.rules.specs.Check.{bodies_verdict, verdict_of};
 ghost use Rattle.rules.specs.Report.{report_answer, report_work};
 ghost use Rattle.tables.specs.Maps.{of};
 ghost use Rattle.checker.specs.Parts.{numberless};
-ghost use Rattle.report.specs.Answer.{counted_of, answer_by};
+ghost use Rattle.report.specs.Answer.{counted_of, answer_by, refusal_of};
 ghost use Rattle.report.specs.Spans.{Begun, Unmarked, Spun, Spanned, stands, Stays};
 ghost use Rattle.report.specs.Tests.{Counted};
 
@@ -157,6 +157,19 @@ pub fn span_rest(valid: &ValidMap, queue: &mut Queue, first: Spanning) -> Spanni
     s
 }
 
+// A refusal, by its number: all counts are 0.
+pub fn refusal(number: u32, place: u32) -> ReportAnswer
+    ensures { result ≡ refusal_of number place }
+{
+    ReportAnswer {
+        number,
+        place,
+        cells: [0u32; 7],
+        free: 0,
+        orientable: false,
+    }
+}
+
 // The answer for a map whose darts are all marked. If any two classes do, those by the number of links from the root of
 // each body do. A link that stays in place stays within a class; so they do exactly if no other link does: if as many
 // links stay within a class as pairs are free.
@@ -242,5 +255,8 @@ pub fn report(
     ensures { (result ≡ report_answer form by_dart dim darts tables.now work.old)
         × (work.new ≡ report_work form by_dart dim darts tables.now work.old) }
 {
-    reported(form, dim, darts, tables, work).unwrap_or_else(ReportAnswer::from)
+    match reported(form, dim, darts, tables, work) {
+        Ok(a) => a,
+        Err(r) => refusal(r.reason.number(), r.place),
+    }
 }

@@ -8,7 +8,8 @@ ghost use Rattle.shapes.specs.Faces.{refusal};
 
 use rules::Refusal;
 
-// The answer of a face file, in numbers as C takes it: n is 0 on a refusal. A text may be longer than 32 bits can say, and its place with it.
+// The answer of a face file, in numbers as C takes it: n is 0 on a refusal. A text may be longer than 32 bits can say,
+// and its place with it.
 #[derive(Clone, Copy)]
 pub struct FacesAnswer {
     pub number: u32,
@@ -16,15 +17,21 @@ pub struct FacesAnswer {
     pub darts: u32,
 }
 
+// A refusal, by its number.
+pub fn refused(number: u32, place: u64) -> FacesAnswer
+    ensures { result ≡ refusal number place }
+{
+    FacesAnswer {
+        number,
+        place,
+        darts: 0,
+    }
+}
+
 impl From<Refusal<u64>> for FacesAnswer {
     ghost from_gives = { λ r a. a ≡ refusal (number_of r.reason) r.place };
 
-    #[tactic(auto, unfolding(crate::specs::Faces::refusal))]
     fn from(r: Refusal<u64>) -> FacesAnswer {
-        FacesAnswer {
-            number: r.reason.number(),
-            place: r.place,
-            darts: 0,
-        }
+        refused(r.reason.number(), r.place)
     }
 }
