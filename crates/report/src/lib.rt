@@ -158,6 +158,7 @@ pub fn span_rest(valid: &ValidMap, queue: &mut Queue, first: Spanning) -> Spanni
 }
 
 // A refusal, by its number: all counts are 0.
+#[tactic(auto, unfolding(crate::specs::Answer::refusal_of))]
 pub fn refusal(number: u32, place: u32) -> ReportAnswer
     ensures { result ≡ refusal_of number place }
 {
