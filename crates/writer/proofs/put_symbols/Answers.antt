@@ -27,10 +27,10 @@ below c = c.loop-due.invariant.0 c.loop-due-test.true
 -- where the writer stands once the body is gone through, and whether the next is due
 stands : (c : After-body_due-due) → let a = c.args in let b = c.put_body in let ps = b.new.positions in (root : ℕ)
     → of (NumberedFrom a.form) a.valid.now.map root a.work.now
-    → of (Writing a.form) a.valid.now.map root (get_or ps 0 0) ps a.pen.now b.new.pen
+    → of (Writing a.form) a.valid.now.map root (get_or ps 0 0) ps a.sheet.now b.new.sheet
 stands c root q =
     let a = c.args in
-    c.put_body.ensures.0.writing a.form root a.pen.now q ((c.loop-due.invariant.1 root q).0 c.loop-due-test.true)
+    c.put_body.ensures.0.writing a.form root a.sheet.now q ((c.loop-due.invariant.1 root q).0 c.loop-due-test.true)
 
 answered : (c : After-body_due-due) → let a = c.args in let m = a.valid.now.map in (r : Bool) → c.body_due-due.result ≡ r
     → body_due a.form m.dim m.darts (m.dim + 1) (get_or c.put_body.new.positions 0 0) ≡ r
