@@ -16,6 +16,15 @@ use Rattle.writer.proofs.Writes.{emitted, emitted_length}
 use Rattle.writer.proofs.emit.Goals as goal
 use Rattle.writer.proofs.emit.Goals.{After-put_number, After-put_symbols}
 
+pub put_few-requires : goal.put_few-requires
+put_few-requires c =
+    let m = c.args.valid.now.map in
+    (put_fits c.new-sheet.ensures (put_none _) 4 (omega arith), omega arith, omega (arith, c.first_bits.ensures, first_small c.args.form m.dim m.limits.dims.1))
+
+pub put_number-requires : goal.put_number-requires
+put_number-requires c =
+    (put_fits c.new-sheet.ensures c.put_few.ensures 12 (omega (arith, length_bits 4 c.first_bits.result)), omega arith, omega arith, omega arith)
+
 -- what was put before the symbols, and before the fill, over the numbering from any root
 headed : (c : After-put_number) → let a = c.args in Put (header a.form a.valid.now.map.dim a.valid.now.map.darts) c.new-sheet.result c.put_number.new.self
 headed c = put_header _ _ _ c.first_bits.ensures c.put_few.ensures c.put_number.ensures
@@ -33,15 +42,6 @@ fits c k h =
     let (root, q) = c.requires.1 in
     let l = stream_bits_lem a.form m.dim m.darts m.tables.now root m.limits.dims.1 m.limits.darts.1 (wanted_rooted a.form _ _ _ _ root q.bodies) v.valid in
     put_fits c.new-sheet.ensures (streamed c root q) k (omega arith)
-
-pub put_few-requires : goal.put_few-requires
-put_few-requires c =
-    let m = c.args.valid.now.map in
-    (put_fits c.new-sheet.ensures (put_none _) 4 (omega arith), omega arith, omega (arith, c.first_bits.ensures, first_small c.args.form m.dim m.limits.dims.1))
-
-pub put_number-requires : goal.put_number-requires
-put_number-requires c =
-    (put_fits c.new-sheet.ensures c.put_few.ensures 12 (omega (arith, length_bits 4 c.first_bits.result)), omega arith, omega arith, omega arith)
 
 pub put_symbols-requires : goal.put_symbols-requires
 put_symbols-requires c =
@@ -62,4 +62,5 @@ returns c = λ root q.
     let u = streamed (goal.at.returns c).After-put_symbols root q in
     let e = c.new-sheet.ensures in
     let p = emitted _ _ _ _ root e u c.fill.new.self.out.now c.fill.ensures.filled in
-    (emitted_length _ _ _ _ root e u _ (λ bs out0 H. c.bytes_of-length.ensures bs H.at H.bits), search (rules, p, ap (λ (x : Sheet). x.out.ghost_name) e, u.same_reference))
+    let l = emitted_length _ _ _ _ root e u _ (λ bs out0 H. c.bytes_of-length.ensures bs H.at H.bits) in
+    (l, search (rules, p, ap (λ (x : Sheet). x.out.ghost_name) e, u.same_reference))
