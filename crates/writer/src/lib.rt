@@ -33,7 +33,13 @@ pub fn put_yield(sheet: &mut Sheet, s: Option<Symbol>)
 // darts have left each queue; at the end all that are numbered have left L0. The queues below Lj are empty, so Lj holds
 // the numbers from position j up to the count. The search for the lowest queue is that of `walk::number_body`, which
 // says why it is no shared loop.
-pub fn put_body(valid: &ValidMap, work: &[u16], positions: &mut [u16; 7], from: u16, sheet: &mut Sheet)
+pub fn put_body(
+    valid: &ValidMap,
+    work: &[u16],
+    positions: &mut [u16; 7],
+    from: u16,
+    sheet: &mut Sheet,
+)
     requires { (2 * valid.now.map.darts ≤ length work.now)
         × of Underway valid.now.map work.now from positions.old sheet.old }
     ensures { let count = get_or positions.new 0 0 in
