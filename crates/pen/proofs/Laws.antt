@@ -20,7 +20,8 @@ use Rattle.rules.specs.Stream.{bits_of, value, pack, code, filled}
 use Rattle.rules.specs.Writing.{page_of}
 use Rattle.rules.proofs.Codes.{length_pack, length_bits, value_lt, value_bits, value_append, value_zeros, bits_join, bits_split, filled_exact}
 use Rattle.pen.specs.declared.Pen.{Pen}
-use Rattle.pen.specs.Pens.{blank_pen, stored, with_byte, penned, PenFits, Holds, Put, IndexFits}
+use Rattle.pen.specs.declared.Sheet.{Sheet}
+use Rattle.pen.specs.Pens.{blank_sheet, stored, with_byte, penned, PenFits, Holds, Put, IndexFits}
 use Rattle.pen.proofs.Bits.{pack_front, pack_whole}
 
 -- the code's three ways to store
@@ -82,15 +83,15 @@ module _ (done : List ℕ) (x start : ℕ) (out : List ℕ) where
           more_past (omega arith) (omega arith) ∙ stored_past start (length done) x (penned done start out) (omega arith) (omega (arith, penned_length))
 
 -- nothing put, and bits after bits
-pub put_none : (pen : Pen) → Put [] pen pen
-put_none pen = record {
+pub put_none : (sheet : Sheet) → Put [] sheet sheet
+put_none sheet = record {
   start = refl;
   same_reference = refl;
   holds = λ bs out0 h. rw append-nil h;
   fits = λ k f. record { room = omega (arith, f.room); in_byte = f.in_byte; holds = f.holds };
 }
 
-pub put_both : {a b : List Bool} {p q r : Pen} → Put a p q → Put b q r → Put (a ++ b) p r
+pub put_both : {a b : List Bool} {p q r : Sheet} → Put a p q → Put b q r → Put (a ++ b) p r
 put_both {a} {b} {p} {q} {r} u v = record {
   start = v.start ∙ u.start;
   same_reference = v.same_reference ∙ u.same_reference;
@@ -109,28 +110,33 @@ module _ {k : ℕ} {pen : Pen} (f : PenFits k pen) where
   pub byte_small : (j b : ℕ) → pen.bits + j ≤ 8 → b < 2 ^ j → pen.value * 2 ^ j % 65536 + b < 256
   byte_small j b l h = rw (shifted j l) (omega (arith, gathered j h, pow_mono {i = pen.bits + j} {j = 8} l))
 
--- the pen with more bits within a byte
-abbrev within : Pen → List Bool → Pen
-within pen more = record pen { bits = pen.bits + length more; value = pen.value * 2 ^ length more + value more }
+-- the sheet with more bits within a byte
+abbrev within : Sheet → List Bool → Sheet
+within sheet more =
+    let pen = sheet.pen in
+    record sheet { pen = record pen { bits = pen.bits + length more; value = pen.value * 2 ^ length more + value more } }
 
--- the pen with a byte that more bits made whole
-abbrev done : Pen → List Bool → Pen
-done pen more = record (with_byte (pen.value * 2 ^ length more + value more) pen) { at = pen.at + 1; bits = 0; value = 0 }
+-- the sheet with a byte that more bits made whole
+abbrev done : Sheet → List Bool → Sheet
+done sheet more =
+    let pen = sheet.pen in
+    record (with_byte (pen.value * 2 ^ length more + value more) sheet) { pen = record { at = pen.at + 1; bits = 0; value = 0 } }
 
 -- bytes done, with the byte that the bits at hand and more make whole
-module _ {bs : List Bool} {out0 : List ℕ} {pen : Pen} (h : Holds bs out0 pen) where
+module _ {bs : List Bool} {out0 : List ℕ} {sheet : Sheet} (h : Holds bs out0 sheet) where
   whole : (more : List Bool) → length bs + length more ≡ 8 * suc (length bs / 8)
-      → stored pen.start pen.at (value (drop (8 * (length bs / 8)) bs ++ more)) pen.out.now ≡ penned (pack (suc (length bs / 8)) (bs ++ more)) pen.start out0
+      → stored sheet.start sheet.pen.at (value (drop (8 * (length bs / 8)) bs ++ more)) sheet.out.now
+      ≡ penned (pack (suc (length bs / 8)) (bs ++ more)) sheet.start out0
   whole more w =
       let k = length bs / 8 in
       let l = length_pack k bs in
-      rw (pack_whole k bs more (omega arith) w, penned_more (pack k bs) (value (drop (8 * k) bs ++ more)) pen.start out0, l, ← h.page, h.at)
+      rw (pack_whole k bs more (omega arith) w, penned_more (pack k bs) (value (drop (8 * k) bs ++ more)) sheet.start out0, l, ← h.page, h.at)
 
-  value_all : (more : List Bool) → value (drop (8 * (length bs / 8)) bs ++ more) ≡ pen.value * 2 ^ length more + value more
+  value_all : (more : List Bool) → value (drop (8 * (length bs / 8)) bs ++ more) ≡ sheet.pen.value * 2 ^ length more + value more
   value_all more = rw (value_append (drop (8 * (length bs / 8)) bs) more, h.value)
 
   -- bits within a byte
-  holds_within : (more : List Bool) → pen.bits + length more < 8 → Holds (bs ++ more) out0 (within pen more)
+  holds_within : (more : List Bool) → sheet.pen.bits + length more < 8 → Holds (bs ++ more) out0 (within sheet more)
   holds_within more few =
       let n : length (bs ++ more) ≡ length bs + length more = length-append bs more in
       let hb = h.bits in
@@ -144,7 +150,7 @@ module _ {bs : List Bool} {out0 : List ℕ} {pen : Pen} (h : Holds bs out0 pen) 
       }
 
   -- bits that make a byte whole
-  holds_whole : (more : List Bool) → 0 < length more → pen.bits + length more ≡ 8 → Holds (bs ++ more) out0 (done pen more)
+  holds_whole : (more : List Bool) → 0 < length more → sheet.pen.bits + length more ≡ 8 → Holds (bs ++ more) out0 (done sheet more)
   unfolding value
   holds_whole more some full =
       let n : length (bs ++ more) ≡ length bs + length more = length-append bs more in
@@ -159,26 +165,26 @@ module _ {bs : List Bool} {out0 : List ℕ} {pen : Pen} (h : Holds bs out0 pen) 
       }
 
   -- the fill
-  pub fill_more : {j : ℕ} → PenFits j pen → 0 < pen.bits
-      → stored pen.start pen.at (pen.value * 2 ^ (8 - pen.bits) % 65536) pen.out.now ≡ penned (filled bs) pen.start out0
+  pub fill_more : {j : ℕ} → PenFits j sheet.pen → 0 < sheet.pen.bits
+      → stored sheet.start sheet.pen.at (sheet.pen.value * 2 ^ (8 - sheet.pen.bits) % 65536) sheet.out.now ≡ penned (filled bs) sheet.start out0
   fill_more f some =
       let hb = h.bits in
-      let left = 8 - pen.bits in
+      let left = 8 - sheet.pen.bits in
       let n : length (replicate left false) ≡ left = length-replicate left false in
       let w : length bs + left ≡ 8 * suc (length bs / 8) = omega arith in
-      let v : value (drop (8 * (length bs / 8)) bs ++ replicate left false) ≡ pen.value * 2 ^ left =
+      let v : value (drop (8 * (length bs / 8)) bs ++ replicate left false) ≡ sheet.pen.value * 2 ^ left =
       rw (value_all (replicate left false), n, value_zeros left) (omega arith) in
       let g : filled bs ≡ pack (suc (length bs / 8)) (bs ++ replicate left false) = filled_exact bs left (suc (length bs / 8)) w (omega arith) in
       rw (shifted f left (omega arith), g, ← v) (whole (replicate left false) (omega arith))
 
-  pub fill_none : pen.bits ≡ 0 → pen.out.now ≡ penned (filled bs) pen.start out0
+  pub fill_none : sheet.pen.bits ≡ 0 → sheet.out.now ≡ penned (filled bs) sheet.start out0
   fill_none e =
       let hb = h.bits in
       rw (filled_exact bs 0 (length bs / 8) (omega arith) (omega arith), append-nil bs) h.page
 
 -- bits more, within a byte or to its end
-module _ (pen : Pen) (more : List Bool) where
-  put_within : pen.bits + length more < 8 → Put more pen (within pen more)
+module _ (sheet : Sheet) (more : List Bool) where
+  put_within : sheet.pen.bits + length more < 8 → Put more sheet (within sheet more)
   put_within few = record {
     start = refl;
     same_reference = refl;
@@ -186,7 +192,7 @@ module _ (pen : Pen) (more : List Bool) where
     fits = λ k f. record { room = omega (arith, f.room); in_byte = few; holds = gathered f (length more) (value_lt more) };
   }
 
-  put_whole : 0 < length more → pen.bits + length more ≡ 8 → Put more pen (done pen more)
+  put_whole : 0 < length more → sheet.pen.bits + length more ≡ 8 → Put more sheet (done sheet more)
   put_whole some full = record {
     start = refl;
     same_reference = refl;
@@ -196,10 +202,6 @@ module _ (pen : Pen) (more : List Bool) where
 
 -- a number in k bits, at most a byte of them, as the code shifts it
 module _ {j : ℕ} {pen : Pen} (f : PenFits j pen) (v k : ℕ) (few : k ≤ 8) (small : v < 2 ^ k) where
-  pub few_within : pen.bits + k < 8 → Put (bits_of k v) pen (record pen { bits = pen.bits + k; value = pen.value * 2 ^ k % 65536 + v })
-  few_within l =
-      rw (shifted f k (omega arith)) (rw (length_bits k v, value_bits k v small) at (put_within pen (bits_of k v) (omega (arith, length_bits k v))))
-
   -- the bits that its byte wants, and those left
   module _ (many : 8 ≤ pen.bits + k) where
     halves : 8 - pen.bits + (pen.bits + k - 8) ≡ k
@@ -217,22 +219,35 @@ module _ {j : ℕ} {pen : Pen} (f : PenFits j pen) (v k : ℕ) (few : k ≤ 8) (
     pub weight_some : 0 < 1 * 2 ^ (pen.bits + k - 8) % 65536
     weight_some = rw weight (pow_pos (pen.bits + k - 8))
 
-    pub few_over : (q : Pen) → q ≡ with_byte (pen.value * 2 ^ (8 - pen.bits) % 65536 + v / 2 ^ (pen.bits + k - 8)) pen
-        → Put (bits_of k v) pen (record q { at = q.at + 1; bits = pen.bits + k - 8; value = v % (1 * 2 ^ (pen.bits + k - 8) % 65536) })
-    few_over q e =
-        let i = f.in_byte in
-        let room = 8 - pen.bits in
-        let left = pen.bits + k - 8 in
-        let hi = v / 2 ^ left in
-        let lo = v % 2 ^ left in
-        let n = length_bits room hi in
-        let m = length_bits left lo in
-        let next : Pen = record (with_byte (pen.value * 2 ^ room + hi) pen) { at = pen.at + 1; bits = 0; value = 0 } in
-        let full : Put (bits_of room hi) pen next =
-        rw (n, value_bits room hi high_small) at (put_whole pen (bits_of room hi) (omega arith) (omega arith)) in
-        let rest = simp (m, value_bits left lo (mod-lt v (pow_pos left)), zero-mul, zero-add) at (put_within next (bits_of left lo) (omega arith)) in
-        let b : bits_of k v ≡ bits_of room hi ++ bits_of left lo = ap (λ (n : ℕ). bits_of n v) (sym halves) ∙ bits_split room left v (rw halves small) in
-        rw (e, shifted f room (omega arith), weight, b) (put_both full rest)
+-- it is put
+module _ (sheet : Sheet) {j : ℕ} (f : PenFits j sheet.pen) (v k : ℕ) (few : k ≤ 8) (small : v < 2 ^ k) where
+  pub few_within : let pen = sheet.pen in pen.bits + k < 8
+      → Put (bits_of k v) sheet (record sheet { pen = record pen { bits = pen.bits + k; value = pen.value * 2 ^ k % 65536 + v } })
+  few_within l =
+      rw (shifted f k (omega arith)) (rw (length_bits k v, value_bits k v small) at (put_within sheet (bits_of k v) (omega (arith, length_bits k v))))
+
+  pub few_over : let pen = sheet.pen in 8 ≤ pen.bits + k
+      → (q : Sheet) → q ≡ with_byte (pen.value * 2 ^ (8 - pen.bits) % 65536 + v / 2 ^ (pen.bits + k - 8)) sheet
+      → Put (bits_of k v) sheet
+      (record q { pen = record { at = q.pen.at + 1; bits = pen.bits + k - 8; value = v % (1 * 2 ^ (pen.bits + k - 8) % 65536) } })
+  few_over many q e =
+      let pen = sheet.pen in
+      let i = f.in_byte in
+      let room = 8 - pen.bits in
+      let left = pen.bits + k - 8 in
+      let hi = v / 2 ^ left in
+      let lo = v % 2 ^ left in
+      let n = length_bits room hi in
+      let m = length_bits left lo in
+      let fit = halves f v k few small many in
+      let high = high_small f v k few small many in
+      let blank : Pen = record { at = pen.at + 1; bits = 0; value = 0 } in
+      let next : Sheet = record (with_byte (pen.value * 2 ^ room + hi) sheet) { pen = blank } in
+      let full : Put (bits_of room hi) sheet next =
+      rw (n, value_bits room hi high) at (put_whole sheet (bits_of room hi) (omega arith) (omega arith)) in
+      let rest = simp (m, value_bits left lo (mod-lt v (pow_pos left)), zero-mul, zero-add) at (put_within next (bits_of left lo) (omega arith)) in
+      let b : bits_of k v ≡ bits_of room hi ++ bits_of left lo = ap (λ (n : ℕ). bits_of n v) (sym fit) ∙ bits_split room left v (rw fit small) in
+      rw (e, shifted f room (omega arith), weight f v k few small many, b) (put_both full rest)
 
 -- a number in k bits, of which the last eight are a byte
 module _ (v k : ℕ) (byte : 8 ≤ k) (small : v < 2 ^ k) where
@@ -242,21 +257,21 @@ module _ (v k : ℕ) (byte : 8 ≤ k) (small : v < 2 ^ k) where
   pub upper_small : v / 2 ^ 8 < 2 ^ (k - 8)
   upper_small = shr_lt (k - 8) 8 (rw upper small)
 
-  module _ {p q : Pen} (u : Put (bits_of (k - 8) (v / 2 ^ 8)) p q) where
-    pub number_fits : PenFits k p → PenFits 8 q
+  module _ {p q : Sheet} (u : Put (bits_of (k - 8) (v / 2 ^ 8)) p q) where
+    pub number_fits : PenFits k p.pen → PenFits 8 q.pen
     number_fits f = let e : length (bits_of (k - 8) (v / 2 ^ 8)) + 8 ≡ k = omega (arith, length_bits (k - 8) (v / 2 ^ 8)) in u.fits 8 (rw e f)
 
-    pub put_halves : {r : Pen} → Put (bits_of 8 (v % 256)) q r → Put (bits_of k v) p r
+    pub put_halves : {r : Sheet} → Put (bits_of 8 (v % 256)) q r → Put (bits_of k v) p r
     put_halves w =
         let b : bits_of k v ≡ bits_of (k - 8) (v / 2 ^ 8) ++ bits_of 8 (v % 256) = rw upper at (bits_split (k - 8) 8 v (rw upper small)) in rw b (put_both u w)
 
 -- the code of a symbol
 module _ {s : Symbol} where
-  pub put_new : s ≡ New → {p r : Pen} → Put (bits_of 1 0) p r → Put (code (told_symbol s)) p r
+  pub put_new : s ≡ New → {p r : Sheet} → Put (bits_of 1 0) p r → Put (code (told_symbol s)) p r
   unfolding code bits_of
   put_new e u = rw e u
 
-  pub put_border : s ≡ Border → {p r : Pen} → Put (bits_of 2 2) p r → Put (code (told_symbol s)) p r
+  pub put_border : s ≡ Border → {p r : Sheet} → Put (bits_of 2 2) p r → Put (code (told_symbol s)) p r
   unfolding code bits_of
   put_border e u = rw e u
 
@@ -264,11 +279,11 @@ module _ {s : Symbol} where
     pub index_small : IndexFits s → w.0 < 4096
     index_small h = rw e at h
 
-    pub put_index : IndexFits s → {p r : Pen} → Put (bits_of 14 (3 * 4096 + w.0)) p r → Put (code (told_symbol s)) p r
+    pub put_index : IndexFits s → {p r : Sheet} → Put (bits_of 14 (3 * 4096 + w.0)) p r → Put (code (told_symbol s)) p r
     unfolding code bits_of
     put_index h u = rw e (rw (← bits_join 2 12 3 w.0 (omega arith) (index_small h)) at u)
 
 -- a pen at the start of a stream
-pub holds_start : (start : ℕ) (out : MutBor (List ℕ)) → Holds [] out.now (blank_pen start out)
+pub holds_start : (start : ℕ) (out : MutBor (List ℕ)) → Holds [] out.now (blank_sheet start out)
 unfolding value pack penned page_of
 holds_start start out = record { at = refl; bits = refl; value = refl; page = rw (drop-nil {A = ℕ} start, take-nil {A = ℕ} (length out.now)) }

@@ -25,17 +25,17 @@ use Rattle.replay.specs.declared.Replayed.{Replayed}
 use Rattle.replay.specs.Replays.{writes_in, replayed_in, told, AtHead, NumberedFrom}
 use Rattle.replay.proofs.Finished.{rooted_by}
 use Rattle.replay.proofs.Replays.{index_below, count_later, replay_starts, replay_served, replay_ends, replay_begins, replay_goes}
-use Rattle.pen.specs.declared.Pen.{Pen}
+use Rattle.pen.specs.declared.Sheet.{Sheet}
 use Rattle.pen.specs.Pens.{PenFits, Put, IndexFits}
 use Rattle.pen.proofs.Laws.{put_none, put_both}
 use Rattle.writer.specs.Written.{Writing, Underway, WentOn}
 
 -- what a step yields, over what the calls answered
-pub put_nothing : {s : Option rules.Symbol} → s ≡ None → (pen : Pen) → Put (codes (told s)) pen pen
+pub put_nothing : {s : Option rules.Symbol} → s ≡ None → (sheet : Sheet) → Put (codes (told s)) sheet sheet
 unfolding codes
-put_nothing e pen = rw e (put_none pen)
+put_nothing e sheet = rw e (put_none sheet)
 
-pub put_one : {s : Option rules.Symbol} (x : rules.Symbol) → s ≡ Some x → {p r : Pen} → Put (code (told_symbol x)) p r → Put (codes (told s)) p r
+pub put_one : {s : Option rules.Symbol} (x : rules.Symbol) → s ≡ Some x → {p r : Sheet} → Put (code (told_symbol x)) p r → Put (codes (told s)) p r
 unfolding codes
 put_one x e u = rw (e, append-nil) u
 
@@ -49,14 +49,14 @@ yield_fits N n t work c j p h (Some New) e = tt
 yield_fits N n t work c j p h (Some Border) e = tt
 yield_fits N n t work c j p h (Some (Index x)) e = omega (arith, index_below N n t work c j p x (sym e))
 
-module _ {F : Form} {N n : ℕ} {m : List ℕ} {root : ℕ} (P : Rooted N n m root) {work : List ℕ} (Q : NumberedFrom F N n m root work) {pen : Pen} where
-  pub writing_starts : Writing F N n m root 1 (0 ∷ 0 ∷ 0 ∷ 0 ∷ 0 ∷ 0 ∷ 0 ∷ []) pen pen
+module _ {F : Form} {N n : ℕ} {m : List ℕ} {root : ℕ} (P : Rooted N n m root) {work : List ℕ} (Q : NumberedFrom F N n m root work) {sheet : Sheet} where
+  pub writing_starts : Writing F N n m root 1 (0 ∷ 0 ∷ 0 ∷ 0 ∷ 0 ∷ 0 ∷ 0 ∷ []) sheet sheet
   unfolding codes
-  writing_starts = record { symbols = []; replaying = replay_starts P Q; put = put_none pen }
+  writing_starts = record { symbols = []; replaying = replay_starts P Q; put = put_none sheet }
 
-  module _ {c : ℕ} {ps : List ℕ} {r : Pen} (W : Writing F N n m root c ps pen r) where
+  module _ {c : ℕ} {ps : List ℕ} {r : Sheet} (W : Writing F N n m root c ps sheet r) where
     -- the pen has room for the next code
-    pub writing_fits : PenFits 401422 pen → PenFits 14 r
+    pub writing_fits : PenFits 401422 sheet.pen → PenFits 14 r.pen
     writing_fits h =
         let e : length (codes W.symbols) + length (codes (ahead W.replaying.walking).symbols) ≡ length (codes (symbols_of F by_dart N n m root)) =
         sym (length-append (codes W.symbols) _) ∙ ap length (sym (codes_append W.symbols _) ∙ ap codes W.replaying.left) in
@@ -72,17 +72,17 @@ module _ {F : Form} {N n : ℕ} {m : List ℕ} {root : ℕ} (P : Rooted N n m ro
         omega (arith, E.lower 0 h)
 
     -- the end, where all queues are empty and no body is due: all symbols were put
-    pub writing_ends : (j : ℕ) → Emptied c ps j → N < j → body_due F N n j c ≡ false → Put (codes (symbols_of F by_dart N n m root)) pen r
+    pub writing_ends : (j : ℕ) → Emptied c ps j → N < j → body_due F N n j c ≡ false → Put (codes (symbols_of F by_dart N n m root)) sheet r
     writing_ends j E h r = rw (← replay_ends P Q W.replaying j E h r) W.put
 
     -- where one is due, it begins and nothing is put
-    pub writing_begins : (j : ℕ) → Emptied c ps j → N < j → body_due F N n j c ≡ true → Writing F N n m root (c + 1) ps pen r
+    pub writing_begins : (j : ℕ) → Emptied c ps j → N < j → body_due F N n j c ≡ true → Writing F N n m root (c + 1) ps sheet r
     writing_begins j E h d = record { symbols = W.symbols; replaying = replay_begins P Q W.replaying j E h d; put = W.put }
 
     -- a turn at the lowest queue that isn't empty, over what its calls answered
     pub writing_goes : (j : ℕ) → Lowest N c ps j → (k : Replayed) → k ≡ replayed_in by_dart N n m work c j (get_or ps j 0) → {ps' : List ℕ}
         → ps' ≡ positions_after j ps
-        → {q : Pen} → Put (codes (told k.written)) r q → Writing F N n m root k.count ps' pen q
+        → {q : Sheet} → Put (codes (told k.written)) r q → Writing F N n m root k.count ps' sheet q
     writing_goes j e k ek ep u =
         let s = writes_in by_dart N n m work c j (get_or ps j 0) in
         let x = rw ek at u in
@@ -90,28 +90,28 @@ module _ {F : Form} {N n : ℕ} {m : List ℕ} {root : ℕ} (P : Rooted N n m ro
         rw (ek, ep) (record { symbols = W.symbols ++ told s; replaying = replay_goes P Q W.replaying j e; put = put' })
 
 -- a body is gone through from wherever the writer stood
-pub went_none : (N n : ℕ) (m work : List ℕ) (c : ℕ) (ps : List ℕ) (pen : Pen) → WentOn N n m work c ps pen c ps pen
-went_none N n m work c ps pen = record { writing = λ F root first Q W. W; grows = omega arith }
+pub went_none : (N n : ℕ) (m work : List ℕ) (c : ℕ) (ps : List ℕ) (sheet : Sheet) → WentOn N n m work c ps sheet c ps sheet
+went_none N n m work c ps sheet = record { writing = λ F root first Q W. W; grows = omega arith }
 
-module _ {N n : ℕ} {m : List ℕ} (L : Limits N n m) (A : Valid by_dart N n m) {c0 c : ℕ} {work ps0 ps : List ℕ} {pen0 pen : Pen}
-    (W : WentOn N n m work c0 ps0 pen0 c ps pen) where
+module _ {N n : ℕ} {m : List ℕ} (L : Limits N n m) (A : Valid by_dart N n m) {c0 c : ℕ} {work ps0 ps : List ℕ} {sheet0 sheet : Sheet}
+    (W : WentOn N n m work c0 ps0 sheet0 c ps sheet) where
   pub went_goes : (j : ℕ) → Lowest N c ps j → (k : Replayed) → k ≡ replayed_in by_dart N n m work c j (get_or ps j 0) → {ps' : List ℕ}
       → ps' ≡ positions_after j ps
-      → {q : Pen} → Put (codes (told k.written)) pen q → WentOn N n m work c0 ps0 pen0 k.count ps' q
+      → {q : Sheet} → Put (codes (told k.written)) sheet q → WentOn N n m work c0 ps0 sheet0 k.count ps' q
   went_goes j e k ek ep u = record {
     writing = λ F root first Q Y. writing_goes (rooted_by L A Q) Q (W.writing F root first Q Y) j e k ek ep u;
     grows = omega (arith, W.grows, count_later N n m work c j (get_or ps j 0) k ek);
   }
 
   -- over a numbering, along which the writer stands where it has come to
-  module _ (U : Underway N n m work c0 ps0 pen0) where
+  module _ (U : Underway N n m work c0 ps0 sheet0) where
     rooted_on : Rooted N n m U.root
     rooted_on = rooted_by L A U.numbered
 
-    stands : Writing U.form N n m U.root c ps U.first pen
+    stands : Writing U.form N n m U.root c ps U.first sheet
     stands = W.writing U.form U.root U.first U.numbered U.writing
 
-    pub went_fits : PenFits 14 pen
+    pub went_fits : PenFits 14 sheet.pen
     went_fits = writing_fits rooted_on U.numbered stands U.room
 
     pub went_left : (j : ℕ) → Emptied c ps j → 0 < j → get_or ps 0 0 ≡ c

@@ -15,17 +15,17 @@ ghost use Rattle.replay.specs.Replays.{told, NumberedFrom};
 ghost use Rattle.pen.specs.Pens.{PenFits, Holds, Put, IndexFits, penned};
 ghost use Rattle.writer.specs.Written.{Underway, WentOn, answer_by};
 
-use pen::Pen;
+use pen::{Pen, Sheet};
 use rules::{Form, Reason, Refusal, Symbol, WriteAnswer};
 use tables::{Map, ValidMap};
 
 // What a step of the replay yields, put: a symbol's code, or nothing.
-pub fn put_yield(pen: &mut Pen, s: Option<Symbol>)
-    requires { PenFits 14 pen.old × IfSome s IndexFits }
-    ensures { Put (codes (told s)) pen.old pen.new }
+pub fn put_yield(sheet: &mut Sheet, s: Option<Symbol>)
+    requires { PenFits 14 sheet.old.pen × IfSome s IndexFits }
+    ensures { Put (codes (told s)) sheet.old sheet.new }
 {
     if let Some(x) = s {
-        pen.put_symbol(x);
+        sheet.put_symbol(x);
     }
 }
 
@@ -33,11 +33,17 @@ pub fn put_yield(pen: &mut Pen, s: Option<Symbol>)
 // darts have left each queue; at the end all that are numbered have left L0. The queues below Lj are empty, so Lj holds
 // the numbers from position j up to the count. The search for the lowest queue is that of `walk::number_body`, which
 // says why it is no shared loop.
-pub fn put_body(valid: &ValidMap, work: &[u16], positions: &mut [u16; 7], from: u16, pen: &mut Pen)
+pub fn put_body(
+    valid: &ValidMap,
+    work: &[u16],
+    positions: &mut [u16; 7],
+    from: u16,
+    sheet: &mut Sheet,
+)
     requires { (2 * valid.now.map.darts ≤ length work.now)
-        × of Underway valid.now.map work.now from positions.old pen.old }
+        × of Underway valid.now.map work.now from positions.old sheet.old }
     ensures { let count = get_or positions.new 0 0 in
-        of WentOn valid.now.map work.now from positions.old pen.old count positions.new pen.new
+        of WentOn valid.now.map work.now from positions.old sheet.old count positions.new sheet.new
         × Emptied count positions.new (valid.now.map.dim + 1) }
 {
     let mut count = from;
@@ -47,7 +53,7 @@ pub fn put_body(valid: &ValidMap, work: &[u16], positions: &mut [u16; 7], from: 
             j += 1;
         } else {
             let s = replay::step(valid, work, positions, j, count);
-            put_yield(pen, s.written);
+            put_yield(sheet, s.written);
             let next = s.count;
             // a new dart enters L0, so the lowest queue is looked for from there again
             if next != count {
@@ -60,11 +66,11 @@ pub fn put_body(valid: &ValidMap, work: &[u16], positions: &mut [u16; 7], from: 
 
 // The symbols of the whole walk, body by body. The numbering is finished: the dart with which the next body begins has
 // the next number already, and enters L0 without a symbol.
-pub fn put_symbols(form: Form, valid: &ValidMap, work: &[u16], pen: &mut Pen)
-    requires { (2 * valid.now.map.darts ≤ length work.now) × PenFits 401422 pen.old
+pub fn put_symbols(form: Form, valid: &ValidMap, work: &[u16], sheet: &mut Sheet)
+    requires { (2 * valid.now.map.darts ≤ length work.now) × PenFits 401422 sheet.old.pen
         × ((root : ℕ) × of (NumberedFrom form) valid.now.map root work.now) }
     ensures { (root : ℕ) → of (NumberedFrom form) valid.now.map root work.now
-        → Put (codes (of (symbols_of form by_dart) valid.now.map root)) pen.old pen.new }
+        → Put (codes (of (symbols_of form by_dart) valid.now.map root)) sheet.old sheet.new }
 {
     let dim = valid.map.dim;
     let darts = valid.map.darts;
@@ -72,15 +78,15 @@ pub fn put_symbols(form: Form, valid: &ValidMap, work: &[u16], pen: &mut Pen)
     let mut due = true;
     while due {
         let from = positions[0] + 1;
-        put_body(valid, work, &mut positions, from, pen);
+        put_body(valid, work, &mut positions, from, sheet);
         due = rules::body_due(form, dim, darts, dim + 1, positions[0]);
     }
 }
 
 // How many bytes a pen's bits come to once the last is filled.
-pub fn bytes_of(pen: &Pen) -> usize
-    requires { PenFits 8 pen.now }
-    ensures { (bs : List Bool) → pen.now.at ≡ length bs / 8 → pen.now.bits ≡ length bs % 8
+pub fn bytes_of(pen: Pen) -> usize
+    requires { PenFits 8 pen }
+    ensures { (bs : List Bool) → pen.at ≡ length bs / 8 → pen.bits ≡ length bs % 8
         → result ≡ length (filled bs) }
 {
     if 0 < pen.bits {
@@ -108,12 +114,12 @@ pub fn emit(form: Form, valid: &ValidMap, work: &[u16], start: usize, out: &mut 
         → (result ≡ length (of (stream form by_dart) valid.now.map root))
         × (out.new ≡ penned (of (stream form by_dart) valid.now.map root) start out.old) }
 {
-    let mut pen = Pen::new(start, out);
-    pen.put_few(first_bits(form, valid.map.dim), 4);
-    pen.put_number((valid.map.darts - 1) as u16, 12);
-    put_symbols(form, valid, work, &mut pen);
-    let length = bytes_of(&pen);
-    pen.fill();
+    let mut sheet = Sheet::new(start, out);
+    sheet.put_few(first_bits(form, valid.map.dim), 4);
+    sheet.put_number((valid.map.darts - 1) as u16, 12);
+    put_symbols(form, valid, work, &mut sheet);
+    let length = bytes_of(sheet.pen);
+    sheet.fill();
     length
 }
 

@@ -35,7 +35,7 @@ less c =
     went_less v.map.limits v.valid c.loop-j.invariant.2 c.requires.1 _ (served e) c.step-s.ensures.1
 
 went : (c : After-put_yield) → let a = c.args in let s = c.step-s in
-    of WentOn a.valid.now.map a.work.now a.from a.positions.now a.pen.now s.result.count s.new.positions c.put_yield.new.pen
+    of WentOn a.valid.now.map a.work.now a.from a.positions.now a.sheet.now s.result.count s.new.positions c.put_yield.new.sheet
 went c =
     let e = (goal.at.After-put_yield c).Else-count-positions in
     let v = c.args.valid.now in

@@ -12,7 +12,7 @@ abbrev pub invariant-loop-j : goal.invariant-loop-j
 invariant-loop-j l =
     let i = l.initial in
     (l.j ≤ l.valid.map.dim + 1) × Emptied l.count l.positions l.j
-    × of WentOn l.valid.map l.work l.from i.positions i.pen l.count l.positions l.pen
+    × of WentOn l.valid.map l.work l.from i.positions i.sheet l.count l.positions l.sheet
 
 abbrev pub decreases-loop-j : goal.decreases-loop-j
 decreases-loop-j l = (enough l.valid.map.dim l.valid.map.darts - sum l.positions) * 8 + (7 - l.j)

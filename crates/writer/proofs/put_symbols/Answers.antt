@@ -24,18 +24,6 @@ rooted c root q = let v = c.args.valid.now in rooted_by v.map.limits v.valid q
 below : (c : In-loop-due) → get_or c.loop-due.positions 0 0 < c.args.valid.now.map.darts
 below c = c.loop-due.invariant.0 c.loop-due-test.true
 
--- where the writer stands once the body is gone through, and whether the next is due
-stands : (c : After-body_due-due) → let a = c.args in let b = c.put_body in let ps = b.new.positions in (root : ℕ)
-    → of (NumberedFrom a.form) a.valid.now.map root a.work.now
-    → of (Writing a.form) a.valid.now.map root (get_or ps 0 0) ps a.pen.now b.new.pen
-stands c root q =
-    let a = c.args in
-    c.put_body.ensures.0.writing a.form root a.pen.now q ((c.loop-due.invariant.1 root q).0 c.loop-due-test.true)
-
-answered : (c : After-body_due-due) → let a = c.args in let m = a.valid.now.map in (r : Bool) → c.body_due-due.result ≡ r
-    → body_due a.form m.dim m.darts (m.dim + 1) (get_or c.put_body.new.positions 0 0) ≡ r
-answered c r e = sym c.body_due-due.ensures ∙ e
-
 pub loop-due-init : goal.loop-due-init
 loop-due-init c = (
   λ e. omega (arith, c.args.valid.now.map.limits.darts.0),
@@ -52,12 +40,21 @@ put_body-requires c =
     let W = (c.loop-due.invariant.1 _ q).0 c.loop-due-test.true in
     (p.0, record { form = _; root = _; first = _; numbered = q; room = p.1; writing = W })
 
+-- where the writer stands once the body is gone through
+stands : (c : After-body_due-due) → let a = c.args in let b = c.put_body in let ps = b.new.positions in (root : ℕ)
+    → of (NumberedFrom a.form) a.valid.now.map root a.work.now
+    → of (Writing a.form) a.valid.now.map root (get_or ps 0 0) ps a.sheet.now b.new.sheet
+stands c root q =
+    let a = c.args in
+    c.put_body.ensures.0.writing a.form root a.sheet.now q ((c.loop-due.invariant.1 root q).0 c.loop-due-test.true)
+
 pub loop-due-preserved : goal.loop-due-preserved
 loop-due-preserved c =
     let a = c.args in
     let m = a.valid.now.map in
     let at = goal.at.loop-due-preserved c in
-    let due = answered at.After-body_due-due in
+    let due : (r : Bool) → c.body_due-due.result ≡ r → body_due a.form m.dim m.darts (m.dim + 1) (get_or c.put_body.new.positions 0 0) ≡ r =
+    λ r e. sym c.body_due-due.ensures ∙ e in
     let e = c.put_body.ensures.1 in (
       λ o. (past_says a.form m.dim m.darts (m.dim + 1) _ (due true o)).1,
       λ root q.

@@ -19,8 +19,8 @@ invariant-loop-due l =
     let i = l.initial in
     (l.due ≡ true → get_or l.positions 0 0 < m.darts)
     × ((root : ℕ) → of (NumberedFrom l.form) m root l.work
-    → (l.due ≡ true → of (Writing l.form) m root (get_or l.positions 0 0 + 1) l.positions i.pen l.pen)
-    × (l.due ≡ false → Put (codes (of (symbols_of l.form by_dart) m root)) i.pen l.pen))
+    → (l.due ≡ true → of (Writing l.form) m root (get_or l.positions 0 0 + 1) l.positions i.sheet l.sheet)
+    × (l.due ≡ false → Put (codes (of (symbols_of l.form by_dart) m root)) i.sheet l.sheet))
 
 abbrev pub decreases-loop-due : goal.decreases-loop-due
 decreases-loop-due l = l.valid.map.darts - get_or l.positions 0 0

@@ -1,7 +1,7 @@
--- `pen::Pen::store` meets its contract: before the page, within it or past it. Assumes nothing.
+-- `pen::Sheet::store` meets its contract: before the page, within it or past it. Assumes nothing.
 use mathlib.Core.Path.{refl}
 use Rattle.pen.proofs.Laws.{stored_before, stored_within, stored_past}
-use Rattle.pen.proofs.Pen.store.Goals as goal
+use Rattle.pen.proofs.Sheet.store.Goals as goal
 
 pub returns-then-self : goal.returns-then-self
 returns-then-self c = rw (← stored_before _ _ c.args.byte _ c.if-self.true) refl

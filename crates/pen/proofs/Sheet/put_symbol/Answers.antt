@@ -1,6 +1,6 @@
--- `pen::Pen::put_symbol` meets its contract: by the symbol. Assumes nothing.
+-- `pen::Sheet::put_symbol` meets its contract: by the symbol. Assumes nothing.
 use Rattle.pen.proofs.Laws.{put_new, put_border, put_index}
-use Rattle.pen.proofs.Pen.put_symbol.Goals as goal
+use Rattle.pen.proofs.Sheet.put_symbol.Goals as goal
 
 pub returns-in-New : goal.returns-in-New
 returns-in-New c = put_new c.in-New.is c.put_few.ensures

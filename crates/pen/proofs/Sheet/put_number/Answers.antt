@@ -1,8 +1,8 @@
--- `pen::Pen::put_number` meets its contract: the bits before the last eight, then those. Assumes nothing.
+-- `pen::Sheet::put_number` meets its contract: the bits before the last eight, then those. Assumes nothing.
 use native.Mathlib.Omega.{arith}
 use borrow.Author.Rules.{rules}
 use Rattle.pen.proofs.Laws.{upper_small, number_fits, put_halves}
-use Rattle.pen.proofs.Pen.put_number.Goals as goal
+use Rattle.pen.proofs.Sheet.put_number.Goals as goal
 
 pub put_few-requires : goal.put_few-requires
 put_few-requires c = (search rules, omega arith, upper_small _ _ c.requires.1 c.requires.3)
