@@ -13,7 +13,8 @@ use Rattle.records.proofs.finish.Goals.{Else-is_some}
 
 pub returns-then-not-bodies_found : goal.returns-then-not-bodies_found
 returns-then-not-bodies_found c =
-    end_bodies _ _ _ _ _ _ _ _ c.bodies_found.ensures (ap not c.if-not-bodies_found.true) _ c.end_reason.ensures c.spoiled.ensures
+    end_bodies _ _ _ _ _ _ _ _ c.bodies_found.ensures (ap not c.if-not-bodies_found.true) _ (c.number.ensures ∙ c.end_reason.ensures)
+    c.spoiled.ensures
 
 -- no condition is broken
 whole : (c : Else-is_some) → let a = c.args in first_broken by_dart a.dim a.darts a.tables.now (pairs_of a.dim) ≡ a.darts
@@ -31,19 +32,21 @@ pub returns-then-is_some : goal.returns-then-is_some
 unfolding number_of
 returns-then-is_some c =
     let h = found_yes _ _ (sym (ap is_some c.first_broken.ensures) ∙ (sym c.is_some.ensures ∙ c.if-is_some.true)) in
-    end_16 _ _ _ _ _ _ _ _ c.bodies_found.ensures (ap not c.if-not-bodies_found.false) _ refl (λ e. omega (arith, e, h)) c.spoiled-then-is_some.ensures
+    end_16 _ _ _ _ _ _ _ _ c.bodies_found.ensures (ap not c.if-not-bodies_found.false) _ refl (λ e. omega (arith, e, h))
+    (rw c.number-then-is_some.ensures at c.spoiled-then-is_some.ensures)
 
 pub returns-then-fill_set : goal.returns-then-fill_set
 unfolding number_of
 returns-then-fill_set c =
     end_17 _ _ _ _ _ _ _ _ c.bodies_found.ensures (ap not c.if-not-bodies_found.false) _ refl (whole (goal.at.returns-then-fill_set c).Else-is_some)
-    _ c.fill_set.ensures c.if-fill_set.true c.spoiled-then-fill_set.ensures
+    _ c.fill_set.ensures c.if-fill_set.true (rw c.number-then-fill_set.ensures at c.spoiled-then-fill_set.ensures)
 
 pub returns-then-byte_after : goal.returns-then-byte_after
 unfolding number_of
 returns-then-byte_after c =
     end_18 _ _ _ _ _ _ _ _ c.bodies_found.ensures (ap not c.if-not-bodies_found.false) _ refl (whole (goal.at.returns-then-byte_after c).Else-is_some)
-    _ c.fill_set.ensures c.if-fill_set.false _ c.byte_after.ensures c.if-byte_after.true c.spoiled-then-byte_after.ensures
+    _ c.fill_set.ensures c.if-fill_set.false _ c.byte_after.ensures c.if-byte_after.true
+    (rw c.number-then-byte_after.ensures at c.spoiled-then-byte_after.ensures)
 
 pub returns : goal.returns
 returns c =
