@@ -105,8 +105,8 @@ pub fn steps_of(positions: [u16; 7]) -> u32
     steps
 }
 
-// Refused: the state keeps number and place, and every other number of the record is 0. By a number, which may be any, as
-// in `plain`.
+// Refused: the state keeps number and place, and every other number of the record is 0. The number may be any, as in
+// `plain`.
 pub fn refused(number: u32, place: u32) -> Answered<ReadAnswer>
     ensures { (result.session ≡ idle_by (State.Refused number place) 0 0)
         × (result.answer ≡ plain_answer number place) }
