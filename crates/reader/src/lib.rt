@@ -46,11 +46,11 @@ pub fn begin(
     let dim = (first / 16 % 8) as usize;
     let darts = (first % 16) as usize * 256 + second as usize + 1;
     if dim < 1 || 6 < dim {
-        return records::refused(Reason::Dimension, 0).asking(0);
+        return records::refused(Reason::Dimension.number(), 0).asking(0);
     }
     let size = (dim + 1) * darts;
     if tables.len() < size {
-        return records::refused(Reason::ShortTables, 0).asking(0);
+        return records::refused(Reason::ShortTables.number(), 0).asking(0);
     }
     tables::blank(tables, size);
     let stand = Stand {
@@ -142,7 +142,7 @@ pub fn spoiled(s: Session, reason: Reason, tables: &mut [u16]) -> Answered<ReadA
         ≡ leaves (reading.spoiled (number_of reason) (walk_of by_dart s t)) t }
 {
     records::spoiled(
-        reason,
+        reason.number(),
         s.dim as usize,
         s.darts as usize,
         Stand::from(s),
@@ -183,7 +183,7 @@ pub fn close_fit(s: Session, tables: &mut [u16]) -> Answered<ReadAnswer>
     ensures { left_by result tables.new ≡ close_as by_dart s.state s tables.old }
 {
     match s.state {
-        State::Header => records::refused(Reason::Cut, 0),
+        State::Header => records::refused(Reason::Cut.number(), 0),
         State::Running => spoiled(s, Reason::Cut, tables),
         State::Complete => held(s, State::Closed),
         State::Closed => records::unchanged(s, Reason::Closed.number(), 0),

@@ -35,7 +35,7 @@ pub signal_wants : (x : Result (Unit {0}) Stop) (w : Walk) (bs : List Bool) → 
 unfolding settle signal_run wants spoiled
 signal_wants (Ok u) w bs h = sym (finish_wants w bs)
 signal_wants (Err (Waits k)) w bs h = unfold more_bits in rw (h k refl)
-signal_wants (Err (Refused r)) w bs h = refl
+signal_wants (Err (Refused nr)) w bs h = refl
 
 -- a page leaves what a call leaves, and answers what the session wants that it leaves
 pub fetches_at : (r : Answered PageAnswer) (p : Answered ReadAnswer) (t : List ℕ) (f : ℕ) → (read_by r ≡ p) × (r.answer.fetch ≡ f) → {l : Left} → left_by p t ≡ l

@@ -11,14 +11,12 @@ use lib.Dec.{eqb}
 use borrow.Author.Tests.{eqb-true, eq-eqb, ne_eqb, not-true, not-false}
 use Rattle.rules.specs.declared.Form.{Form}
 use Rattle.rules.specs.declared.Form.TheVariants.{One, Several}
-use Rattle.rules.specs.declared.Reason.{Reason}
 use Rattle.rules.specs.declared.Session.{Session}
 use Rattle.rules.specs.declared.ReadAnswer.{ReadAnswer}
 use Rattle.rules.specs.declared.State.TheVariants as state
 use Rattle.rules.specs.Lists.{sum}
 use Rattle.rules.specs.Map.{by_dart, Limits, blank, pairs_of, first_broken}
 use Rattle.rules.specs.Bodies.{several, end_number}
-use Rattle.rules.specs.Refusals.{number_of}
 use Rattle.rules.specs.Walk.{Walk, link_of, steps}
 use Rattle.rules.specs.Inner.{gone}
 use Rattle.rules.proofs.Positions.{over}
@@ -120,9 +118,9 @@ module _ (N n : ℕ) (s : Stand) (t : List ℕ) (bs : List Bool) (r : Answered R
 
 -- where a run leaves off, by its signal
 module _ (w : Walk) (bs : List Bool) (t : List ℕ) (l : Left) (x : Result (Unit {0}) Stop) where
-  pub settled_refused : (r : Reason) → x ≡ Err (Refused r) → l ≡ leaves (spoiled (number_of r) w) t → l ≡ leaves (settle (signal_run x w bs)) t
+  pub settled_refused : (nr : ℕ) → x ≡ Err (Refused nr) → l ≡ leaves (spoiled nr w) t → l ≡ leaves (settle (signal_run x w bs)) t
   unfolding settle signal_run
-  settled_refused r q e = rw q e
+  settled_refused nr q e = rw q e
 
   pub settled_ended : x ≡ Ok tt → l ≡ leaves (finish w bs) t → l ≡ leaves (settle (signal_run x w bs)) t
   unfolding settle signal_run

@@ -21,7 +21,7 @@ fetched_by r t = record { session = r.session; answer = r.answer; tables = t }
 abbrev pub signal_fetch : Result (Unit {0}) Stop → ℕ
 signal_fetch (Ok u) = 0
 signal_fetch (Err (Waits k)) = whole_bytes k
-signal_fetch (Err (Refused r)) = 0
+signal_fetch (Err (Refused nr)) = 0
 
 -- a page leaves this of a reading, and answers what the session wants that it leaves
 pub record Fetches (r : Answered PageAnswer) (t : List ℕ) (l : Left) : Type 0 where

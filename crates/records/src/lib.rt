@@ -99,27 +99,27 @@ pub fn steps_of(positions: [u16; 7]) -> u32
     ensures { result ≡ sum positions }
 {
     let mut steps = 0;
-    for p in positions {
-        steps += u32::from(p);
+    for i in 0..Session::RANKS {
+        steps += u32::from(positions[i]);
     }
     steps
 }
 
-// Refused: the state keeps number and place, and every other number of the record is 0.
-pub fn refused(reason: Reason, place: u32) -> Answered<ReadAnswer>
-    ensures { (result.session ≡ idle_by (State.Refused (number_of reason) place) 0 0)
-        × (result.answer ≡ plain_answer (number_of reason) place) }
+// Refused: the state keeps number and place, and every other number of the record is 0. The number may be any, as in
+// `plain`.
+pub fn refused(number: u32, place: u32) -> Answered<ReadAnswer>
+    ensures { (result.session ≡ idle_by (State.Refused number place) 0 0)
+        × (result.answer ≡ plain_answer number place) }
 {
-    let number = reason.number();
     let session = idle(State::Refused(number, place), 0, 0);
     let answer = plain(number, place);
     Answered { session, answer }
 }
 
-// Refused for a reason that wipes the tables: the map's entries become the mark. N and n go beside the tables here and
+// Refused by a number that wipes the tables: the map's entries become the mark. N and n go beside the tables here and
 // below, as `steps::join` says.
 pub fn spoiled(
-    reason: Reason,
+    number: u32,
     dim: usize,
     darts: usize,
     stand: Stand,
@@ -127,11 +127,11 @@ pub fn spoiled(
 ) -> Answered<ReadAnswer>
     requires { Limits dim darts tables.old }
     ensures { let t = tables.old in left_by result tables.new
-        ≡ leaves (reading.spoiled (number_of reason) (walk_at by_dart dim darts stand t)) t }
+        ≡ leaves (reading.spoiled number (walk_at by_dart dim darts stand t)) t }
 {
     let place = steps_of(stand.positions);
     tables::blank(tables, (dim + 1) * darts);
-    refused(reason, place)
+    refused(number, place)
 }
 
 // Accepted so far: the record of the walk, and its answer.
@@ -247,17 +247,17 @@ pub fn finish(
         ≡ leaves (reading.finish (walk_at by_dart dim darts stand t) (of at_hand bits.entry)) t }
 {
     if !bodies_found(stand.form, stand.bodies, stand.count, darts) {
-        return spoiled(end_reason(stand.form), dim, darts, stand, tables);
+        return spoiled(end_reason(stand.form).number(), dim, darts, stand, tables);
     }
     let map = Map { dim, darts, tables };
     if map.first_broken().is_some() {
-        return spoiled(Reason::Built, dim, darts, stand, tables);
+        return spoiled(Reason::Built.number(), dim, darts, stand, tables);
     }
     if fill_set(bits) {
-        return spoiled(Reason::Fill, dim, darts, stand, tables);
+        return spoiled(Reason::Fill.number(), dim, darts, stand, tables);
     }
     if byte_after(bits) {
-        return spoiled(Reason::ByteAfter, dim, darts, stand, tables);
+        return spoiled(Reason::ByteAfter.number(), dim, darts, stand, tables);
     }
     held(State::Complete, dim, darts, stand, 0, 0)
 }
@@ -269,7 +269,7 @@ pub fn settle(dim: usize, darts: usize, r: Ran, tables: &mut [u16]) -> Answered<
         ≡ leaves (reading.settle (told_run dim darts r.entry t)) t }
 {
     match r.signal {
-        Err(Stop::Refused(reason)) => spoiled(reason, dim, darts, r.stand, tables),
+        Err(Stop::Refused(number)) => spoiled(number, dim, darts, r.stand, tables),
         Ok(()) => finish(dim, darts, r.stand, r.bits, tables),
         Err(Stop::Waits(_)) => {
             let w = r.bits.rest();

@@ -86,19 +86,19 @@ signal_walk : (g : Result (Unit {0}) Stop) (w : Walk) (bs : List Bool) → run_w
 unfolding run_walk signal_run
 signal_walk (Ok u) w bs = refl
 signal_walk (Err (Waits m)) w bs = refl
-signal_walk (Err (Refused r)) w bs = refl
+signal_walk (Err (Refused nr)) w bs = refl
 
 -- how a run ends, by number
 abbrev signal_no : Result (Unit {0}) Stop → ℕ
 signal_no (Ok u) = 0
 signal_no (Err (Waits m)) = 1
-signal_no (Err (Refused r)) = 2
+signal_no (Err (Refused nr)) = 2
 
 -- the bits that a run waits for
 abbrev bits_of_signal : Result (Unit {0}) Stop → ℕ
 bits_of_signal (Ok u) = 0
 bits_of_signal (Err (Waits m)) = m
-bits_of_signal (Err (Refused r)) = 0
+bits_of_signal (Err (Refused nr)) = 0
 
 apart : {A : Type 0} (x y : Result (Unit {0}) Stop) → signal_no x ≢ signal_no y → x ≡ y → A
 apart x y h e = absurd (h (ap signal_no e))
@@ -264,8 +264,8 @@ module _ {N n : ℕ} {s0 : Stand} {c0 : Bits} {t0 : List ℕ} {a : Search} {ps :
         stop y ps' t' (turn_rests ranked some) (rw (← (rw q at (x.tells s0.form a.bodies)))) (λ z. apart y (Ok tt) (omega arith) z)
         (λ z. apart y (Ok tt) (omega arith) z)
         (λ i z. (rw q at x.again) ∙ ap Taken.short (ap bits_of_signal z))
-    run_stops (Refused e) q =
-        let y = Err (Refused e) in
+    run_stops (Refused nr) q =
+        let y = Err (Refused nr) in
         stop y ps' t' (turn_rests ranked some) (rw (← (rw q at (x.tells s0.form a.bodies)))) (λ z. apart y (Ok tt) (omega arith) z)
         (λ z. apart y (Ok tt) (omega arith) z)
         (λ m z. apart y (Err (Waits m)) (omega arith) z)

@@ -17,6 +17,7 @@ use Rattle.rules.specs.Stream.{bits_of}
 use Rattle.rules.specs.Reading.{step_taken, step_with, step_at}
 use Rattle.rules.specs.Session.{begins, walk_at}
 use Rattle.rules.specs.Symbols.{told_symbol}
+use Rattle.rules.specs.Refusals.{number_of}
 use Rattle.rules.specs.Inner.{gone, bound, Lowest, Inv, Asks}
 use Rattle.rules.proofs.Walks.{start_inv}
 use Rattle.rules.proofs.Bodies.{one_rests}
@@ -116,9 +117,9 @@ deduced_asked q = let z : ◌≡◌ {A = ℕ} 0 1 = cc in omega arith
 -- the turn of a step that was made with the bits c left
 abbrev pub after_step : Result Next Reason → Bits → Result Turned Stop
 after_step (Ok x) c = Ok (record { next = x; bits = c })
-after_step (Err e) c = Err (stop.Refused e)
+after_step (Err e) c = Err (stop.Refused (number_of e))
 
-pub after_refused : {e : Reason} {r : Result Next Reason} (c : Bits) → r ≡ Err e → (g : Result Turned Stop) → IsErrAnd g (λ y. y ≡ stop.Refused e)
+pub after_refused : {e : Reason} {r : Result Next Reason} (c : Bits) → r ≡ Err e → (g : Result Turned Stop) → IsErrAnd g (λ y. y ≡ stop.Refused (number_of e))
     → after_step r c ≡ g
 after_refused c q (Ok x) h = absurd h
 after_refused c q (Err y) h = rw (q, h)
@@ -239,7 +240,7 @@ module _ (c : Bits) {N n k : ℕ} {ps t : List ℕ} (y : Ready N n (stand k ps) 
 
     pub turn_refused : (s : Taken) → got ≡ Ok s → (i : Reason) (r : Result Next Reason) → r ≡ Err i → (ps' t' : List ℕ)
         → Steps N n k ps t (symbol_step j b (told_symbol s.symbol)) r ps' t'
-        → (g : Result Turned Stop) → IsErrAnd g (λ y. y ≡ stop.Refused i) → Turns N n k ps c t g ps' t'
+        → (g : Result Turned Stop) → IsErrAnd g (λ y. y ≡ stop.Refused (number_of i)) → Turns N n k ps c t g ps' t'
     turn_refused s e i r q ps' t' z g h =
         let d : Bits = record { cursor = s.cursor; page = c.page; fits = symbol_fits s e } in
         rw (after_refused d q g h) at (symbol_turns s e r ps' t' z d refl refl)

@@ -3,7 +3,6 @@ use Rattle.std.specs.Prelude.{ℕ, ◌+◌, ◌≡◌, Bool, true, cond, List, R
 use Rattle.rules.specs.Map.{by_dart}
 use Rattle.rules.specs.Walk.{Walk}
 use Rattle.rules.specs.Stream.{Taken, take_symbol}
-use Rattle.rules.specs.Refusals.{number_of}
 use Rattle.rules.specs.Reading.{Run, run_all}
 use Rattle.rules.specs.Session.{walk_at}
 use Rattle.rules.specs.Bodies.{several}
@@ -33,14 +32,14 @@ past_of F N n a =
 unfoldable pub signal_run : Result (Unit {0}) Stop → Walk → List Bool → Run
 signal_run (Ok u) w bs = Run.ended w bs
 signal_run (Err (Waits k)) w bs = Run.waits w bs
-signal_run (Err (Refused r)) w bs = Run.refused (number_of r) w
+signal_run (Err (Refused nr)) w bs = Run.refused nr w
 
 -- a run as the rules tell it
 abbrev pub told_run : ℕ → ℕ → Ran → List ℕ → Run
 told_run N n r t = signal_run r.signal (walk_at by_dart N n r.stand t) (of at_hand r.bits)
 
 -- what a run leaves, with the positions that it leaves
-abbrev pub ran_at : Form → Halted → List ℕ → Ran
+abbrev pub ran_at : Form → Halted Bits → List ℕ → Ran
 ran_at F r ps = record { stand = stand_in F r.bodies r.count ps; bits = r.bits; signal = r.signal }
 
 -- what a run leaves: the page and the form as they were; at the walk's end no bit waits and, as no body is due, every dart of the several form is numbered;

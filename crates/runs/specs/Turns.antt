@@ -3,7 +3,6 @@ use Rattle.std.specs.Prelude.{ℕ, ◌≤◌, ◌≡◌, ◌⊎◌, false, List,
 use Rattle.rules.specs.Map.{by_dart}
 use Rattle.rules.specs.Walk.{head, due}
 use Rattle.rules.specs.Stream.{bits_of, Taken, take_symbol}
-use Rattle.rules.specs.Refusals.{number_of}
 use Rattle.rules.specs.Reading.{Run, Step, step_at}
 use Rattle.rules.specs.Session.{walk_at}
 use Rattle.rules.specs.Inner.{Emptied, Inv, Asks}
@@ -29,7 +28,7 @@ pub record Ready (N n : ℕ) (s : Stand) (c : Cursor) (t : List ℕ) : Type 0 wh
 unfoldable pub told_turn : Form → ℕ → ℕ → ℕ → ℕ → Bits → Result Turned Stop → List ℕ → List ℕ → Step
 told_turn F B N n k c (Ok x) ps t = Step.goes (walk_at by_dart N n (stand_in F B x.next.count ps) t) (of at_hand x.bits)
 told_turn F B N n k c (Err (Waits m)) ps t = Step.stops (Run.waits (walk_at by_dart N n (stand_in F B k ps) t) (of at_hand c))
-told_turn F B N n k c (Err (Refused r)) ps t = Step.stops (Run.refused (number_of r) (walk_at by_dart N n (stand_in F B k ps) t))
+told_turn F B N n k c (Err (Refused nr)) ps t = Step.stops (Run.refused nr (walk_at by_dart N n (stand_in F B k ps) t))
 
 -- where a turn goes on, the page is the same, its walk may be stepped, the queues below the rank are empty, and it is not past N; where it waits the
 -- bits c run out within a symbol
@@ -37,7 +36,7 @@ unfoldable pub Again : ℕ → ℕ → Bits → Result Turned Stop → List ℕ 
 Again N n c (Ok x) ps t =
     (x.bits.page.now ≡ c.page.now) × Ready N n (stand x.next.count ps) x.bits.cursor t × Emptied x.next.count ps x.next.rank × (x.next.rank ≤ N)
 Again N n c (Err (Waits m)) ps t = take_symbol (of at_hand c) ≡ Taken.short m
-Again N n c (Err (Refused r)) ps t = Unit
+Again N n c (Err (Refused nr)) ps t = Unit
 
 -- what a turn leaves: the rules' step in whatever form, with however many bodies; the body that is due after it is not begun yet
 pub record Turns (N n k : ℕ) (ps : List ℕ) (c : Bits) (t : List ℕ) (r : Result Turned Stop) (ps' t' : List ℕ) : Type 0 where

@@ -5,6 +5,7 @@
 ghost use Rattle.std.specs.Prelude.{◌≡◌, ◌≤◌};
 ghost use Rattle.rules.specs.Inner.{Lowest};
 ghost use Rattle.rules.specs.Walk.{Partner};
+ghost use Rattle.rules.specs.Refusals.{number_of};
 ghost use Rattle.steps.specs.Steps.{stand_in, stand, HeadCase};
 ghost use Rattle.runs.specs.Turns.{Ready, Turns};
 ghost use Rattle.runs.specs.declared.Stop.TheVariants as Stop;
@@ -22,11 +23,11 @@ pub struct Turned<'a> {
     pub bits: Bits<'a>,
 }
 
-// Why a walk goes no further: it waits for so many bits more at least, or it is refused.
+// Why a walk goes no further: it waits for so many bits more at least, or it is refused by a number.
 #[derive(Clone, Copy)]
 pub enum Stop {
     Waits(u32),
-    Refused(Reason),
+    Refused(u32),
 }
 
 impl From<Short> for Stop {
@@ -38,10 +39,10 @@ impl From<Short> for Stop {
 }
 
 impl From<Reason> for Stop {
-    ghost from_gives = { λ reason stop. stop ≡ Stop.Refused reason };
+    ghost from_gives = { λ reason stop. stop ≡ Stop.Refused (number_of reason) };
 
     fn from(reason: Reason) -> Stop {
-        Stop::Refused(reason)
+        Stop::Refused(reason.number())
     }
 }
 
@@ -57,10 +58,10 @@ pub struct Search {
 // Where a run leaves the count, the bodies and the bits, beside the positions, which are lent; and how it ended: at the
 // walk's end, or stopped before it.
 #[derive(Clone, Copy)]
-pub struct Halted<'a> {
+pub struct Halted<B> {
     pub count: u16,
     pub bodies: u16,
-    pub bits: Bits<'a>,
+    pub bits: B,
     pub signal: Result<(), Stop>,
 }
 
@@ -97,8 +98,8 @@ pub fn past(form: Form, dim: usize, darts: usize, at: Search) -> Search
 }
 
 // A run that leaves off here.
-pub fn halt<'a>(at: Search, bits: Bits<'a>, signal: Result<(), Stop>) -> Halted<'a>
-    ensures { result ≡ record { count = at.count; bodies = at.bodies; bits = bits.entry; signal = signal } }
+pub fn halt<B: Copy>(at: Search, bits: B, signal: Result<(), Stop>) -> Halted<B>
+    ensures { result ≡ record { count = at.count; bodies = at.bodies; bits = bits; signal = signal } }
 {
     Halted {
         count: at.count,
@@ -177,7 +178,7 @@ pub fn walk_on<'a>(
     darts: usize,
     count: u16,
     start: Bits<'a>,
-) -> Halted<'a>
+) -> Halted<Bits<'a>>
     requires { Ready dim darts (stand_in form bodies count positions.old) start.cursor tables.old }
     ensures { Runs dim darts (stand_in form bodies count positions.old) start.entry tables.old
         (ran_at form result positions.new) tables.new }

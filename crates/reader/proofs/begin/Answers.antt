@@ -12,13 +12,13 @@ use Rattle.reader.proofs.begin.Goals as goal
 pub returns-then-dim-lt1 : goal.returns-then-dim-lt1
 unfolding headed dim_of number_of
 returns-then-dim-lt1 c =
-    let r = c.refused.ensures in
+    let r = rw c.number.ensures at c.refused.ensures in
     fetches_at _ _ _ _ c.asking.ensures (begin_dim _ _ _ _ _ _ r.0 r.1 (unfit_dim _ c.then-dim-lt1.either)) (refused_none _ 1 0 r.0)
 
 pub returns-then-tables-size : goal.returns-then-tables-size
 unfolding headed dim_of number_of
 returns-then-tables-size c =
-    let r = c.refused-then-tables-size.ensures in
+    let r = rw c.number-then-tables-size.ensures at c.refused-then-tables-size.ensures in
     fetches_at _ _ _ _ c.asking-then-tables-size.ensures
     (begin_room _ _ _ _ _ _ r.0 r.1 (fits_dim _ (omega arith) (omega arith)) (rw (size_is _ _) at c.if-tables-size.true))
     (refused_none _ 3 0 r.0)

@@ -17,7 +17,9 @@ held-requires c =
 
 pub returns-in-Header : goal.returns-in-Header
 unfolding close_as number_of
-returns-in-Header c = close_by c.args.s _ c.in-Header.is (close_header _ c.args.s _ c.refused.ensures.0 c.refused.ensures.1)
+returns-in-Header c =
+    let r = rw c.number.ensures at c.refused.ensures in
+    close_by c.args.s _ c.in-Header.is (close_header _ c.args.s _ r.0 r.1)
 
 pub returns-in-Running : goal.returns-in-Running
 unfolding close_as number_of
@@ -31,7 +33,7 @@ pub returns-in-Closed : goal.returns-in-Closed
 unfolding close_as number_of
 returns-in-Closed c =
     let e = c.unchanged.ensures in
-    close_by c.args.s _ c.in-Closed.is (unchanged_number _ c.args.s _ _ _ c.number.ensures e.0 e.1)
+    close_by c.args.s _ c.in-Closed.is (unchanged_number _ c.args.s _ _ _ c.number-in-Closed.ensures e.0 e.1)
 
 pub returns-in-Refused : goal.returns-in-Refused
 unfolding close_as

@@ -3,15 +3,15 @@ use native.Mathlib.Omega.{arith}
 use Rattle.records.proofs.Fills.{sum_on, sum_over}
 use Rattle.records.proofs.steps_of.Goals as goal
 
-pub loop-p-preserved : goal.loop-p-preserved
-loop-p-preserved c =
-    let (few, whole) = c.loop-p.invariant in
+pub loop-i-preserved : goal.loop-i-preserved
+loop-i-preserved c =
+    let (few, whole) = c.loop-i.invariant in
     let e = c.from-steps.ensures in
-    let x = sum_on c.args.positions c.loop-p.p-index (omega (arith, c.well_formed.0.1.0.1)) in
-    (omega (arith, c.loop-p-test.element_fits.fits), omega arith)
+    let x = sum_on c.args.positions c.loop-i.i (omega (arith, c.well_formed.0.1.0.1)) in
+    (omega arith, omega arith)
 
 pub returns : goal.returns
 returns c =
-    let (few, whole) = c.loop-p.invariant in
-    let x = sum_over c.args.positions c.loop-p.p-index (omega (arith, c.well_formed.0.1.0.1, c.loop-p-test.false)) in
+    let (few, whole) = c.loop-i.invariant in
+    let x = sum_over c.args.positions c.loop-i.i (omega (arith, c.well_formed.0.1.0.1)) in
     omega arith

@@ -5,5 +5,5 @@ use lib.ListN.{drop}
 use Rattle.rules.specs.Lists.{sum}
 use Rattle.records.proofs.steps_of.Given as goal
 
-abbrev pub invariant-loop-p : goal.invariant-loop-p
-invariant-loop-p l = (l.steps ≤ 65535 * l.p-index) × (sum l.fn.positions ≡ l.steps + sum (drop l.p-index l.fn.positions))
+abbrev pub invariant-loop-i : goal.invariant-loop-i
+invariant-loop-i l = (l.steps ≤ 65535 * l.i) × (sum l.positions ≡ l.steps + sum (drop l.i l.positions))
