@@ -13,7 +13,7 @@ use text::Place;
 // The most corners of a map, and of a block.
 pub const BLOCK: usize = 2048;
 // No corner.
-const NONE: u16 = 65535;
+pub const NONE: u16 = 65535;
 
 // A side's two vertices as one number, the same for both directions.
 fn key(u: u32, v: u32) -> u64

@@ -84,7 +84,7 @@ pub fn naming(map: &Map, count: u16, j: usize, b: WalkNo, e: WalkNo) -> Result<(
     if count <= e.0 {
         return Err(Cause::Unnumbered);
     }
-    if e == b {
+    if e.0 == b.0 {
         return Err(Cause::Itself);
     }
     if known_link(map, j, e).0 != Session::NO_LINK {

@@ -155,7 +155,10 @@ fn faces(start: Place<'_>, count: u32, vertices: u32) -> Result<Survey, Malforme
     };
     let mut p = start;
     for k in 0..count {
-        let f = seen(p, vertices)?;
+        let f = match seen(p, vertices) {
+            Ok(f) => f,
+            Err(e) => return Err(e),
+        };
         s = judged(s, k, f.value);
         p = f.after;
     }

@@ -29,4 +29,7 @@ returns-then-asks c =
     running_begun _ _ (fits (goal.at.returns-then-asks c).Else-not-walk_fits) _ c.from.ensures _ c.asks.ensures c.if-asks.true _ c.begins.ensures
 
 pub returns-else-asks : goal.returns-else-asks
-returns-else-asks c = c.if-asks.false ∙ running_still _ _ (fits (goal.at.returns-else-asks c).Else-not-walk_fits) _ c.from.ensures _ c.asks.ensures c.if-asks.false
+returns-else-asks c =
+    let no = c.if-asks.false in
+    let unfit = running_still _ _ (fits (goal.at.returns-else-asks c).Else-not-walk_fits) _ c.from.ensures _ c.asks.ensures no in
+    cc
