@@ -19,7 +19,7 @@ returns-in-Some c =
 
 pub returns-then-queue : goal.returns-then-queue
 unfolding number_of
-returns-then-queue c = rw c.of.ensures (several_all c.args.queue.now.queue c.in-Several.is c.if-queue.true)
+returns-then-queue c = simp (c.of.ensures, sym (several_all c.args.queue.now.queue c.in-Several.is c.if-queue.true))
 
 pub returns-in_default : goal.returns-in_default
 returns-in_default c = one_all c.in-One.is (found_not _ _ (sym c.first_unmarked.ensures ∙ c.in_default.is))
