@@ -18,6 +18,7 @@ pub struct FacesAnswer {
 }
 
 // A refusal, by its number.
+#[tactic(auto, unfolding(crate::specs::Faces::refusal))]
 pub fn refused(number: u32, place: u64) -> FacesAnswer
     ensures { result ≡ refusal number place }
 {

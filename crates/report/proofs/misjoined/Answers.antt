@@ -20,14 +20,13 @@ returns-in-Some c =
 pub returns-in_default : goal.returns-in_default
 returns-in_default c = one_all c.in-One.is (found_not _ _ (sym c.first_unmarked.ensures ∙ c.in_default.is))
 
-
 -- the queue's length tells that every dart has a mark
 pub returns-else-queue : goal.returns-else-queue
 returns-else-queue c = one_all c.in-One.is (least_past c.args.queue.now.queue c.if-queue.false)
 
 pub returns-then-queue-2 : goal.returns-then-queue-2
 unfolding number_of
-returns-then-queue-2 c = rw c.of.ensures (several_all c.args.queue.now.queue c.in-Several.is c.if-queue-2.true)
+returns-then-queue-2 c = simp (c.of.ensures, sym (several_all c.args.queue.now.queue c.in-Several.is c.if-queue-2.true))
 
 pub returns-else-queue-2 : goal.returns-else-queue-2
 returns-else-queue-2 c = several_more c.args.queue.now.queue c.in-Several.is c.if-queue-2.false
