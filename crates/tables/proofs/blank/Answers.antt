@@ -1,4 +1,7 @@
 -- `tables::blank` meets its contract: the entries that are filled, then the rest as they were. Assumes nothing.
+use Prim.Native.Nat.{◌-◌}
+use mathlib.Core.Path.{◌≡◌}
+use native.Mathlib.Omega.{arith}
 use Rattle.std.proofs.Common.{length-take-le}
 use Rattle.rules.specs.Map.{blank}
 use Rattle.tables.proofs.blank.Goals as goal
@@ -7,4 +10,5 @@ pub returns : goal.returns
 unfolding blank
 returns c =
     let a = c.args in
-    rw (c.fill.ensures.after (λ y e. e), length-take-le a.count a.room.now c.requires)
+    let z : a.count - 0 ≡ a.count = omega arith in
+    rw (c.fill.ensures.after (λ y e. e), z, length-take-le a.count a.room.now c.requires)
