@@ -30,8 +30,8 @@ impl Ranks {
     }
 }
 
-// The dart at a place of the queue that lies in a room. This leaf and the two after it are over the room and the queue's
-// length alone, for any class; `Queue` has them over its own room.
+// The dart at a place of the queue that lies in a room. This function and the two after it take the room and the
+// queue's length apart, and any class; the methods of `Queue` of these names have them over its own room.
 pub fn queued(work: &[u16], darts: usize, place: usize) -> u16
     requires { (2 * darts ≤ length work.now) × (place < darts) }
     ensures { result ≡ Rattle.flood.specs.Flood.queued darts work.now place }
